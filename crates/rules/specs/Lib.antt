@@ -1,0 +1,22 @@
+-- Document 01 as definitions, in the order in which they are read. docs/READING.md leads from each sentence to its name.
+pub mod Numbers
+pub mod Registers
+pub mod State
+pub mod Seen
+pub mod Map
+pub mod Records
+pub mod Events
+pub mod Counter
+pub mod Stack
+pub mod Interrupts
+pub mod Reads
+pub mod Codes
+pub mod StepA
+pub mod StepB
+pub mod StepC
+pub mod StepD
+pub mod Answers
+pub mod Step
+pub mod Chips
+pub mod Ranges
+pub mod Examples

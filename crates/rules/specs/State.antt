@@ -1,0 +1,95 @@
+-- The state of the chip: its components, with the two FIFOs as lists of bytes, oldest first.
+use Prim.Native.Nat.{ℕ}
+use mathlib.Core.Bool.{Bool, true, false}
+use mathlib.Core.List.{List, []}
+use lib.ListN.{replicate}
+use Rattle.rules.specs.Registers.{scsiseqOf, sxfrctl0Of, sxfrctl1Of, scsisigOf, scsirateOf, scsiidOf, simode0Of, simode1Of, dmacntrl0Of, dmacntrl1Of}
+use Rattle.rules.specs.declared.registers.Registers.{Registers}
+use Rattle.rules.specs.declared.records.Lines.{Lines}
+use Rattle.rules.specs.declared.chip.Status.{Status}
+use Rattle.rules.specs.declared.chip.Latches.{Latches}
+use Rattle.rules.specs.declared.chip.Stack.{Stack}
+
+-- "both FIFOs; counter, offset": the data path; ack is the automatic ACK, last the byte last sent
+pub record Transfer : Type 0 where
+  pub host : List ℕ
+  pub scsi : List ℕ
+  pub counter : ℕ
+  pub offset : ℕ
+  pub ack : Bool
+  pub last : ℕ
+
+-- lines: those that others drive; quiet: the quiet ticks; identity: the place in the ID string
+pub record State : Type 0 where
+  pub lines : Lines
+  pub registers : Registers
+  pub transfer : Transfer
+  pub status : Status
+  pub latches : Latches
+  pub stack : Stack
+  pub quiet : ℕ
+  pub identity : ℕ
+
+-- "Power reset: everything 0 and empty, all lines released, those others drive included."
+abbrev pub released : Lines
+released =
+    record {
+      byte = 0;
+      parity = false;
+      rst = false;
+      cd = false;
+      io = false;
+      msg = false;
+      atn = false;
+      sel = false;
+      bsy = false;
+      req = false;
+      ack = false;
+    }
+
+abbrev pub registersReset : Registers
+registersReset =
+    record {
+      scsiseq = scsiseqOf 0;
+      sxfrctl0 = sxfrctl0Of 0;
+      sxfrctl1 = sxfrctl1Of 0;
+      scsisig = scsisigOf false 0;
+      scsirate = scsirateOf 0;
+      scsiid = scsiidOf 0;
+      scsidat = 0;
+      simode0 = simode0Of 0;
+      simode1 = simode1Of 0;
+      dmacntrl0 = dmacntrl0Of 0;
+      dmacntrl1 = dmacntrl1Of 0;
+      brstcntrl = 0;
+    }
+
+abbrev pub statusReset : Status
+statusReset =
+    record {
+      spiordy = false;
+      scsirsti = false;
+      busfree = false;
+      scsiperr = false;
+      phasechg = false;
+      reqinit = false;
+      syncerr = false;
+      fwerr = false;
+    }
+
+abbrev pub latchesReset : Latches
+latchesReset =
+    record { spiordy = false; scsirsti = false; busfree = false; scsiperr = false; phasechg = false; reqinit = false }
+
+unfoldable pub powerReset : State
+powerReset =
+    record {
+      lines = released;
+      registers = registersReset;
+      transfer = record { host = []; scsi = []; counter = 0; offset = 0; ack = false; last = 0 };
+      status = statusReset;
+      latches = latchesReset;
+      stack = record { bytes = replicate 32 0; pointer = 0 };
+      quiet = 0;
+      identity = 0;
+    }

@@ -1,0 +1,87 @@
+-- D, what follows settling; then the latches.
+use Prim.Native.Nat.{ℕ}
+use mathlib.Core.Bool.{Bool, true, false, not, _&&_, _||_}
+use lib.Dec.{ltb}
+use Rattle.rules.specs.State.{State, Transfer}
+use Rattle.rules.specs.Seen.{reqSeen, ackSeen, automatic, normal, matched, path}
+use Rattle.rules.specs.Interrupts.{latched}
+use Rattle.rules.specs.StepA.{afterA}
+use Rattle.rules.specs.StepB.{afterB}
+use Rattle.rules.specs.StepC.{Settling, settledC}
+use Rattle.rules.specs.declared.registers.Registers.{Registers}
+use Rattle.rules.specs.declared.records.Lines.{Lines}
+use Rattle.rules.specs.declared.records.Event.{Event}
+use Rattle.rules.specs.declared.chip.Status.{Status}
+use Rattle.rules.specs.declared.chip.Latches.{Latches}
+
+-- "Normal mode with DMAEN, SCSIEN and no path sets FWERR."
+unfoldable pub fifoConflict : Registers → Bool
+fifoConflict r = normal r && r .sxfrctl0 .scsien && not (path r)
+
+-- "Automatic mode, matched, REQ seen, automatic ACK off sets SPIORDY."
+unfoldable pub pioReady : Registers → Lines → Transfer → Bool
+pioReady r l t = automatic r && matched r l && reqSeen r l && not (t .ack)
+
+-- what each status rose to in the event, even if it falls again: REQINIT as after B
+unfoldable pub statusRaised : Registers → Lines → Transfer → Status → Status
+statusRaised r l t b =
+    record {
+      spiordy = pioReady r l t || b .spiordy;
+      scsirsti = b .scsirsti;
+      busfree = b .busfree;
+      scsiperr = b .scsiperr;
+      phasechg = b .phasechg;
+      reqinit = b .reqinit;
+      syncerr = b .syncerr;
+      fwerr = fifoConflict r || b .fwerr;
+    }
+
+-- "Each ACK ... clears REQINIT." "REQINIT also falls when ACK is seen."
+unfoldable pub statusD : ℕ → Bool → Status → Status
+statusD acks seen t =
+    record {
+      spiordy = t .spiordy;
+      scsirsti = t .scsirsti;
+      busfree = t .busfree;
+      scsiperr = t .scsiperr;
+      phasechg = t .phasechg;
+      reqinit = not (ltb 0 acks) && not seen && t .reqinit;
+      syncerr = t .syncerr;
+      fwerr = t .fwerr;
+    }
+
+-- the latches, from those after A: enables after A (r) and before (before), statuses after A (status) and raised
+unfoldable pub latchesD : Registers → Registers → Status → Status → Latches → Latches
+latchesD before r status raised k =
+    record {
+      spiordy =
+          latched (k .spiordy) (r .simode0 .enspiordy) (before .simode0 .enspiordy) (status .spiordy) (raised .spiordy);
+      scsirsti =
+          latched (k .scsirsti) (r .simode1 .enscsirst) (before .simode1 .enscsirst) (status .scsirsti) (raised .scsirsti);
+      busfree =
+          latched (k .busfree) (r .simode1 .enbusfree) (before .simode1 .enbusfree) (status .busfree) (raised .busfree);
+      scsiperr =
+          latched (k .scsiperr) (r .simode1 .enscsiperr) (before .simode1 .enscsiperr) (status .scsiperr) (raised .scsiperr);
+      phasechg =
+          latched (k .phasechg) (r .simode1 .enphasechg) (before .simode1 .enphasechg) (status .phasechg) (raised .phasechg);
+      reqinit =
+          latched (k .reqinit) (r .simode1 .enreqinit) (before .simode1 .enreqinit) (status .reqinit) (raised .reqinit);
+    }
+
+-- the state after D: last is the state at the end of the last event, a after A, b after B, c what settling left
+unfoldable pub finished : State → State → State → Settling → State
+finished last a b c =
+    let raised = statusRaised (b .registers) (b .lines) (c .transfer) (b .status) in
+    record {
+      lines = b .lines;
+      registers = b .registers;
+      transfer = c .transfer;
+      status = statusD (c .acks) (ackSeen (b .registers) (b .lines) (c .transfer)) raised;
+      latches = latchesD (last .registers) (b .registers) (a .status) raised (b .latches);
+      stack = b .stack;
+      quiet = b .quiet;
+      identity = b .identity;
+    }
+
+unfoldable pub afterD : State → Event → State
+afterD s e = finished s (afterA s e) (afterB s e) (settledC s e)

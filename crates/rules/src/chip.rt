@@ -1,0 +1,87 @@
+// The chip: its components by value. A FIFO's oldest byte stands at 0, and zeros past its count.
+use crate::records::Lines;
+use crate::registers::Registers;
+
+pub struct HostFifo {
+    pub bytes: [u8; 128],
+    pub count: usize,
+}
+
+pub struct ScsiFifo {
+    pub bytes: [u8; 8],
+    pub count: usize,
+}
+
+// The data path; ack is the automatic ACK, last the byte last sent.
+pub struct DataPath {
+    pub host: HostFifo,
+    pub scsi: ScsiFifo,
+    pub counter: u32,
+    pub offset: u8,
+    pub ack: bool,
+    pub last: u8,
+}
+
+// The status bits that are kept; PHASEMIS is live and not among them.
+pub struct Status {
+    pub spiordy: bool,
+    pub scsirsti: bool,
+    pub busfree: bool,
+    pub scsiperr: bool,
+    pub phasechg: bool,
+    pub reqinit: bool,
+    pub syncerr: bool,
+    pub fwerr: bool,
+}
+
+// The interrupt latches.
+pub struct Latches {
+    pub spiordy: bool,
+    pub scsirsti: bool,
+    pub busfree: bool,
+    pub scsiperr: bool,
+    pub phasechg: bool,
+    pub reqinit: bool,
+}
+
+// The stack's bytes and the pointer of 353h.
+pub struct Stack {
+    pub bytes: [u8; 32],
+    pub pointer: u8,
+}
+
+// quiet: ticks for which BSY and SEL were not seen, up to 8; identity: the place in the ID string.
+pub struct Chip {
+    pub lines: Lines,
+    pub registers: Registers,
+    pub path: DataPath,
+    pub status: Status,
+    pub latches: Latches,
+    pub stack: Stack,
+    pub quiet: u8,
+    pub identity: u8,
+}
+
+// The edges of one event, as step B finds them; quiet is the number of quiet ticks after it.
+pub struct Edges {
+    pub reqfalls: bool,
+    pub rstrises: bool,
+    pub reqrises: bool,
+    pub paritybad: bool,
+    pub beyond: bool,
+    pub counted: bool,
+    pub stored: bool,
+    pub late: bool,
+    pub free: bool,
+    pub quiet: u8,
+}
+
+// What settling looks at and does not change.
+pub struct Conditions {
+    pub path: bool,
+    pub enabled: bool,
+    pub outbound: bool,
+    pub synchronous: bool,
+    pub req: bool,
+    pub byte: u8,
+}
