@@ -3,9 +3,9 @@
 -- count 8; then eight bytes: those sent by Normal-mode ACKs in this event, in order, the rest 0."
 use Prim.Native.Nat.{ℕ, _+_, _*_, _/_, _%_}
 use mathlib.Core.Bool.{Bool, true, false}
-use mathlib.Core.List.{List, [], _∷_, _++_}
-use lib.ListN.{length, take, replicate}
-use Rattle.rules.specs.Numbers.{one, byteOf}
+use mathlib.Core.List.{List, _∷_}
+use lib.ListN.{length}
+use Rattle.rules.specs.Numbers.{one, byteOf, padded}
 use Rattle.rules.specs.State.{State}
 use Rattle.rules.specs.Seen.{ackDriven, driving, dataDriven, parityDriven}
 use Rattle.rules.specs.Interrupts.{irq}
@@ -24,10 +24,6 @@ pub record Stepped : Type 0 where
 
 abbrev pub answerSize : ℕ
 answerSize = 16
-
--- a list of bytes in n places, zeros behind it
-abbrev pub padded : ℕ → List ℕ → List ℕ
-padded n l = take n (l ++ replicate n 0)
 
 -- "control lines driven 8 (order of 343h)": CD, IO, MSG and REQ are never driven
 unfoldable pub controlDriven : State → ℕ

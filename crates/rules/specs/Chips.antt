@@ -5,7 +5,7 @@ use mathlib.Core.List.{List}
 use lib.ListN.{length, take}
 use Rattle.rules.specs.State.{State, Transfer, powerReset}
 use Rattle.rules.specs.Counter.{counterSize}
-use Rattle.rules.specs.Answers.{padded}
+use Rattle.rules.specs.Numbers.{padded}
 use Rattle.rules.specs.declared.registers.Registers.{Registers}
 use Rattle.rules.specs.declared.chip.HostFifo.{HostFifo}
 use Rattle.rules.specs.declared.chip.ScsiFifo.{ScsiFifo}

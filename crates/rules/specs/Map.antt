@@ -26,38 +26,38 @@ nothing = row Missing Missing
 
 unfoldable pub table : List Row
 table =
-    both SCSISEQ -- 340h
-    ∷ both SXFRCTL0 -- 341h
-    ∷ both SXFRCTL1 -- 342h
-    ∷ row (Present SCSISIGI) (Present SCSISIGO) -- 343h
-    ∷ row Missing (Present SCSIRATE) -- 344h
-    ∷ row (Present SELID) (Present SCSIID) -- 345h
-    ∷ both SCSIDAT -- 346h
-    ∷ row (Present SCSIBUS) Missing -- 347h
-    ∷ both STCNT0 -- 348h
-    ∷ both STCNT1 -- 349h
-    ∷ both STCNT2 -- 34Ah
-    ∷ row (Present SSTAT0) (Present CLRSINT0) -- 34Bh
-    ∷ row (Present SSTAT1) (Present CLRSINT1) -- 34Ch
-    ∷ row (Present SSTAT2) Missing -- 34Dh
-    ∷ row (Present SSTAT3) (Present SCSITEST) -- 34Eh
-    ∷ row (Present SSTAT4) (Present CLRSERR) -- 34Fh
-    ∷ both SIMODE0 -- 350h
-    ∷ both SIMODE1 -- 351h
-    ∷ both DMACNTRL0 -- 352h
-    ∷ both DMACNTRL1 -- 353h
-    ∷ row (Present DMASTAT) Missing -- 354h
-    ∷ row (Present FIFOSTAT) Missing -- 355h
-    ∷ both DMADATA -- 356h
-    ∷ nothing -- 357h
-    ∷ both BRSTCNTRL -- 358h
-    ∷ nothing -- 359h
-    ∷ nothing -- 35Ah
-    ∷ nothing -- 35Bh
-    ∷ row (Present REV) Missing -- 35Ch
-    ∷ both STACK -- 35Dh
-    ∷ row Missing (Present TEST) -- 35Eh
-    ∷ row (Present ID) Missing -- 35Fh
+    both SCSISEQ  -- 340h
+    ∷ both SXFRCTL0  -- 341h
+    ∷ both SXFRCTL1  -- 342h
+    ∷ row (Present SCSISIGI) (Present SCSISIGO)  -- 343h
+    ∷ row Missing (Present SCSIRATE)  -- 344h
+    ∷ row (Present SELID) (Present SCSIID)  -- 345h
+    ∷ both SCSIDAT  -- 346h
+    ∷ row (Present SCSIBUS) Missing  -- 347h
+    ∷ both STCNT0  -- 348h
+    ∷ both STCNT1  -- 349h
+    ∷ both STCNT2  -- 34Ah
+    ∷ row (Present SSTAT0) (Present CLRSINT0)  -- 34Bh
+    ∷ row (Present SSTAT1) (Present CLRSINT1)  -- 34Ch
+    ∷ row (Present SSTAT2) Missing  -- 34Dh
+    ∷ row (Present SSTAT3) (Present SCSITEST)  -- 34Eh
+    ∷ row (Present SSTAT4) (Present CLRSERR)  -- 34Fh
+    ∷ both SIMODE0  -- 350h
+    ∷ both SIMODE1  -- 351h
+    ∷ both DMACNTRL0  -- 352h
+    ∷ both DMACNTRL1  -- 353h
+    ∷ row (Present DMASTAT) Missing  -- 354h
+    ∷ row (Present FIFOSTAT) Missing  -- 355h
+    ∷ both DMADATA  -- 356h
+    ∷ nothing  -- 357h
+    ∷ both BRSTCNTRL  -- 358h
+    ∷ nothing  -- 359h
+    ∷ nothing  -- 35Ah
+    ∷ nothing  -- 35Bh
+    ∷ row (Present REV) Missing  -- 35Ch
+    ∷ both STACK  -- 35Dh
+    ∷ row Missing (Present TEST)  -- 35Eh
+    ∷ row (Present ID) Missing  -- 35Fh
     ∷ []
 
 unfoldable pub readAt : ℕ → Mapped

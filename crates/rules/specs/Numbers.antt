@@ -1,7 +1,9 @@
--- Bits of numbers. Document 01, "Records": "Fields are packed most significant bit first."
-use Prim.Native.Nat.{ℕ, zero, suc, _+_, _*_, _/_, _%_, _^_}
+-- Bits of numbers, and bytes in places. Document 01, "Records": "Fields are packed most significant bit first."
+use Prim.Native.Nat.{ℕ, zero, suc, _+_, _*_, _-_, _/_, _%_, _^_}
 use mathlib.Core.Bool.{Bool, true, false}
+use mathlib.Core.List.{List, _++_}
 use lib.Dec.{eqb}
+use lib.ListN.{length, replicate}
 
 -- bit k of a number
 abbrev pub bit : ℕ → ℕ → Bool
@@ -32,3 +34,7 @@ ones v = onesIn 8 v
 
 abbrev pub even : ℕ → Bool
 even n = eqb (n % 2) 0
+
+-- n places: the bytes of l, then zeros
+unfoldable pub padded : ℕ → List ℕ → List ℕ
+padded n l = l ++ replicate (n - length l) 0

@@ -40,13 +40,13 @@ offsetLimit kind = getD (1 ∷ 32 ∷ 32 ∷ []) kind 1
 abbrev pub eventOf : ℕ → ℕ → ℕ → Decoded
 eventOf kind offset payload =
     getD
-    (Well PowerReset -- 0: power reset
-    ∷ Well (Write offset payload) -- 1: register write
-    ∷ Well (Read offset) -- 2: register read
-    ∷ Well (WordWrite payload) -- 3: word write at 356h
-    ∷ Well WordRead -- 4: word read at 356h
-    ∷ Well (Drive (linesOf payload)) -- 5: lines others drive
-    ∷ Well (Ticks payload) -- 6: ticks of 50 ns
+    (Well PowerReset  -- 0: power reset
+    ∷ Well (Write offset payload)  -- 1: register write
+    ∷ Well (Read offset)  -- 2: register read
+    ∷ Well (WordWrite payload)  -- 3: word write at 356h
+    ∷ Well WordRead  -- 4: word read at 356h
+    ∷ Well (Drive (linesOf payload))  -- 5: lines others drive
+    ∷ Well (Ticks payload)  -- 6: ticks of 50 ns
     ∷ [])
     kind Ill
 

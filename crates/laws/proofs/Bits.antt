@@ -1,0 +1,25 @@
+-- Masks, shifts and packing by the definitions' bit and field: each law once, over the bit index or the width.
+use mathlib.Core.Path.{_≡_, ap}
+use mathlib.Core.Bool.{false}
+use Prim.Native.Nat.{ℕ, _+_, _*_, _/_, _%_, _^_, _-_, _≤_, _<_}
+use native.Mathlib.Nat.{mod-eq-of-lt, div-eq-of-lt, lt-of-lt-of-le}
+use lib.Pow.{pow-mono}
+use lib.Dec.{eqb}
+use lib.Bits.{bitAnd, bitOr, or-shifted, and-mask}
+use Rattle.rules.specs.Numbers.{bit, field}
+
+-- (n >> k) & (2 ^ w - 1)
+pub field-and : (n k w : ℕ) → bitAnd (n / 2 ^ k) (2 ^ w - 1) ≡ field n k w
+field-and n k w = and-mask (n / 2 ^ k) w
+
+-- ((n >> k) & 1) == 1
+pub bit-and-one : (n k : ℕ) → eqb (bitAnd (n / 2 ^ k) 1) 1 ≡ bit n k
+bit-and-one n k = ap (λ (m : ℕ). eqb m 1) (and-mask (n / 2 ^ k) 1)
+
+-- a number of w bits has none past them
+pub bit-past : (w n k : ℕ) → n < 2 ^ w → w ≤ k → false ≡ bit n k
+bit-past w n k h l = rw (div-eq-of-lt {n = n} {m = 2 ^ k} (lt-of-lt-of-le h (pow-mono l)))
+
+-- (a << k) | b in a word of w bits, where nothing is lost and b is below the shift
+pub join : (w k a b : ℕ) → a * 2 ^ k < 2 ^ w → b < 2 ^ k → bitOr (a * 2 ^ k % 2 ^ w) b ≡ a * 2 ^ k + b
+join w k a b h l = rw (mod-eq-of-lt {n = a * 2 ^ k} {m = 2 ^ w} h) (or-shifted a k b l)
