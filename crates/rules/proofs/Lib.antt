@@ -1,2 +1,4 @@
 pub mod Computes
+pub mod Logic
 pub mod Marked
+pub mod Settling
