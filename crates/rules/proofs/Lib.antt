@@ -6,3 +6,4 @@ pub mod Refusals
 pub mod Beliefs
 pub mod Effects
 pub mod Witnesses
+pub mod Packing
