@@ -1,5 +1,6 @@
 pub mod Computes
 pub mod Logic
 pub mod Marked
+pub mod Ranges
 pub mod Rest
 pub mod Settling
