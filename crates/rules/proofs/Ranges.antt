@@ -1,0 +1,712 @@
+-- Whatever records come, the state stays in range: from power reset the offset is at most 8, the SCSI FIFO at most 8, the host
+-- FIFO at most 128, the counter below 16,777,216 and the pointer below 32; and every answer is sixteen bytes.
+use mathlib.Core.Path.{_≡_, refl, sym, _∙_}
+use mathlib.Core.Bool.{Bool, true, false, not, _&&_, _||_, cond}
+use mathlib.Core.List.{List, [], _∷_, _++_}
+use Prim.Native.Nat.{ℕ, zero, suc, _+_, _-_, _/_, _%_, _<_, _≤_, min}
+use native.Mathlib.Omega.{arith}
+use lib.Dec.{ltb, leb, eqb}
+use lib.Bits.{or-lt}
+use lib.Pow.{areBytes}
+use lib.ListN.{length, take, drop, getD, set, replicate, length-append, length-take, length-drop, length-set, length-replicate}
+use borrow.Author.Tests.{ltb-true, ltb-false, leb-false}
+use Rattle.rules.specs.State.{State, Transfer, powerReset}
+use Rattle.rules.specs.Ranges.{Bytes, TransferFits, RegistersFit, StackFits, InRange}
+use Rattle.rules.specs.Records.{linesOf, payloadLimit, offsetLimit, eventOf, wellFormed, fieldsOf, payloadOf, decode}
+use Rattle.rules.specs.Events.{writes, reads, valueOf, ticksOf, linesAfter, offered, asked, portWrite}
+use Rattle.rules.specs.Counter.{counterSize, counted, counterWith}
+use Rattle.rules.specs.Stack.{stackByte, stackPlace, pointerAfter, stackRead, stackWritten, pointed}
+use Rattle.rules.specs.StepA.{clrstcnt, clrch, rstfifo, automaticAck, registersA, hostA, counterA, transferA, stackA, identityA, afterA}
+use Rattle.rules.specs.Registers.{scsirateOf, scsiidOf}
+use Rattle.rules.specs.Seen.{atnSeen, bsySeen, selSeen, ioSeen, ackDriven, ackSeen, normal, limit, driving, dataDriven, parityDriven, dataSeen}
+use Rattle.rules.specs.StepB.{rstRises, synchronousReq, beyondLimit, registersB, quietAfter, edges, transferB, applied, edgesOf, afterB}
+use Rattle.rules.specs.StepC.{Settling, conditions, canMove, move, canHandshake, storedBy, handshake, settle, turns, started, settledC}
+use Rattle.rules.specs.StepD.{finished, afterD}
+use Rattle.rules.specs.Interrupts.{phasemis, instat, irq}
+use Rattle.rules.specs.Map.{readAt}
+use Rattle.rules.specs.Reads.{scsisigi, scsibus, sstat0, sstat1, sstat2, sstat3, sstat4, dmastat, idBytes, readOf, readMapped, valueRead}
+use Rattle.rules.specs.Codes.{numberOf, absent, testValue, shut, noRoom, noBytes, check, first, accessCode, refusedValue, isDone}
+use Rattle.rules.specs.Answers.{Stepped, controlDriven, answerOf, answerBytes}
+use Rattle.rules.specs.Step.{refused, done, access, stepEvent, stepDecoded, step, answer, after}
+use Rattle.rules.specs.Numbers.{one, byteOf, padded}
+use Rattle.rules.specs.declared.map.Register.{Register}
+use Rattle.rules.specs.declared.map.Mapped.{Mapped}
+use Rattle.rules.specs.declared.map.Mapped.the-variants.{Present, Missing}
+use Rattle.rules.specs.declared.codes.Code.{Code}
+use Rattle.rules.specs.declared.codes.Code.the-variants.{Done, Malformed, Absent, Shut, NoRoom, NoBytes, BeyondLimit, TestValue}
+use Rattle.rules.specs.declared.chip.Edges.{Edges}
+use Rattle.rules.specs.declared.chip.Conditions.{Conditions}
+use Rattle.rules.specs.declared.registers.Scsirate.{Scsirate}
+use Rattle.rules.specs.declared.registers.Scsiid.{Scsiid}
+use Rattle.rules.specs.declared.chip.Stack.{Stack}
+use Rattle.rules.specs.declared.map.Register.the-variants.{SCSISEQ, SXFRCTL0, SXFRCTL1, SCSISIGI, SCSISIGO, SCSIRATE, SELID, SCSIID, SCSIDAT, SCSIBUS, STCNT0, STCNT1, STCNT2, SSTAT0, CLRSINT0, SSTAT1, CLRSINT1, SSTAT2, SSTAT3, SCSITEST, SSTAT4, CLRSERR, SIMODE0, SIMODE1, DMACNTRL0, DMACNTRL1, DMASTAT, FIFOSTAT, DMADATA, BRSTCNTRL, REV, STACK, TEST, ID}
+use Rattle.rules.specs.declared.registers.Registers.{Registers}
+use Rattle.rules.specs.declared.records.Lines.{Lines}
+use Rattle.rules.specs.declared.records.Event.{Event}
+use Rattle.rules.specs.declared.records.Event.the-variants.{PowerReset, Write, Read, WordWrite, WordRead, Drive, Ticks}
+use Rattle.rules.specs.declared.records.Decoded.{Decoded}
+use Rattle.rules.specs.declared.records.Decoded.the-variants.{Well, Ill}
+use Rattle.rules.proofs.Logic.{never, left-true, right-true, cond-case}
+use Rattle.rules.proofs.Settling.{settle-keeps}
+use Rattle.rules.proofs.Rest.{move-outbound, move-inbound, handshake-inbound, Report, settling-reports}
+
+-- bytes stay bytes in every list that the rules make of them
+pub bytes-append : (l k : List ℕ) → Bytes l → Bytes k → Bytes (l ++ k)
+bytes-append [] k p q = q
+bytes-append (b ∷ l) k p q = (p .0, bytes-append l k (p .1) q)
+
+pub bytes-take : (n : ℕ) (l : List ℕ) → Bytes l → Bytes (take n l)
+bytes-take zero l p = tt
+bytes-take (suc n) [] p = tt
+bytes-take (suc n) (b ∷ l) p = (p .0, bytes-take n l (p .1))
+
+pub bytes-drop : (n : ℕ) (l : List ℕ) → Bytes l → Bytes (drop n l)
+bytes-drop zero l p = p
+bytes-drop (suc n) [] p = tt
+bytes-drop (suc n) (b ∷ l) p = bytes-drop n l (p .1)
+
+pub bytes-at : (l : List ℕ) (k : ℕ) → Bytes l → getD l k 0 < 256
+bytes-at [] k p = omega arith
+bytes-at (b ∷ l) zero p = p .0
+bytes-at (b ∷ l) (suc k) p = bytes-at l k (p .1)
+
+pub bytes-set : (l : List ℕ) (k v : ℕ) → v < 256 → Bytes l → Bytes (set l k v)
+bytes-set [] k v h p = tt
+bytes-set (b ∷ l) zero v h p = (h, p .1)
+bytes-set (b ∷ l) (suc k) v h p = (p .0, bytes-set l k v h (p .1))
+
+pub bytes-zeros : (n : ℕ) → Bytes (replicate n 0)
+bytes-zeros zero = tt
+bytes-zeros (suc n) = (omega arith, bytes-zeros n)
+
+pub bytes-computed : (l : List ℕ) → areBytes l ≡ true → Bytes l
+bytes-computed [] h = tt
+bytes-computed (b ∷ l) h = (ltb-true b 256 (left-true (ltb b 256) (areBytes l) h), bytes-computed l (right-true (ltb b 256) (areBytes l) h))
+
+-- eight bits are a byte
+pub one-fits : (b : Bool) → one b ≤ 1
+one-fits true = omega arith
+one-fits false = omega arith
+
+pub byte-fits : (b7 b6 b5 b4 b3 b2 b1 b0 : Bool) → byteOf b7 b6 b5 b4 b3 b2 b1 b0 < 256
+byte-fits b7 b6 b5 b4 b3 b2 b1 b0 =
+    omega (arith, one-fits b7, one-fits b6, one-fits b5, one-fits b4, one-fits b3, one-fits b2, one-fits b1, one-fits b0)
+
+-- the fields of an event are in range
+abbrev pub EventFits : Event → Type 0
+EventFits PowerReset = Unit {0}
+EventFits (Write offset value) = (offset < 32) × (value < 256)
+EventFits (Read offset) = offset < 32
+EventFits (WordWrite word) = word < 65536
+EventFits WordRead = Unit {0}
+EventFits (Drive lines) = lines .byte < 256
+EventFits (Ticks n) = n < 16777216
+
+abbrev pub DecodedFits : Decoded → Type 0
+DecodedFits (Well e) = EventFits e
+DecodedFits Ill = Unit {0}
+
+-- the event of each kind, where payload and offset are below their limits
+event-fits : (kind offset payload : ℕ) → payload < payloadLimit kind → offset < offsetLimit kind → DecodedFits (eventOf kind offset payload)
+unfolding linesOf
+event-fits zero offset payload p o = tt
+event-fits (suc zero) offset payload p o = (o, p)
+event-fits (suc (suc zero)) offset payload p o = o
+event-fits (suc (suc (suc zero))) offset payload p o = p
+event-fits (suc (suc (suc (suc zero)))) offset payload p o = tt
+event-fits (suc (suc (suc (suc (suc zero))))) offset payload p o = omega arith
+event-fits (suc (suc (suc (suc (suc (suc zero)))))) offset payload p o = p
+event-fits (suc (suc (suc (suc (suc (suc (suc k))))))) offset payload p o = tt
+
+fields-fit : (kind offset payload : ℕ) → DecodedFits (fieldsOf kind offset payload)
+unfolding fieldsOf wellFormed
+fields-fit kind offset payload =
+    cond-case DecodedFits (ltb payload (payloadLimit kind) && ltb offset (offsetLimit kind)) (eventOf kind offset payload) Ill
+    (λ h.
+    event-fits kind offset payload
+    (ltb-true payload (payloadLimit kind) (left-true (ltb payload (payloadLimit kind)) (ltb offset (offsetLimit kind)) h))
+    (ltb-true offset (offsetLimit kind) (right-true (ltb payload (payloadLimit kind)) (ltb offset (offsetLimit kind)) h)))
+    (λ h. tt)
+
+-- WHATEVER LIST OF NUMBERS IS DECODED, the event it gives has its fields in range
+pub decode-fits : (bytes : List ℕ) → DecodedFits (decode bytes)
+unfolding decode
+decode-fits bytes =
+    cond-case DecodedFits (eqb (length bytes) 4)
+    (fieldsOf (getD bytes 0 0 / 32) (getD bytes 0 0 % 32) (payloadOf (getD bytes 1 0) (getD bytes 2 0) (getD bytes 3 0))) Ill
+    (λ h. fields-fit (getD bytes 0 0 / 32) (getD bytes 0 0 % 32) (payloadOf (getD bytes 1 0) (getD bytes 2 0) (getD bytes 3 0)))
+    (λ h. tt)
+
+-- what an event brings is in range: the byte written, the lines driven, the bytes offered to the port
+value-of-fits : (e : Event) → EventFits e → valueOf e < 256
+unfolding valueOf
+value-of-fits PowerReset f = omega arith
+value-of-fits (Write offset value) f = f .1
+value-of-fits (Read offset) f = omega arith
+value-of-fits (WordWrite word) f = omega arith
+value-of-fits WordRead f = omega arith
+value-of-fits (Drive lines) f = omega arith
+value-of-fits (Ticks n) f = omega arith
+
+lines-fit : (e : Event) (l : Lines) → EventFits e → l .byte < 256 → (linesAfter e l) .byte < 256
+unfolding linesAfter
+lines-fit PowerReset l f h = h
+lines-fit (Write offset value) l f h = h
+lines-fit (Read offset) l f h = h
+lines-fit (WordWrite word) l f h = h
+lines-fit WordRead l f h = h
+lines-fit (Drive lines) l f h = f
+lines-fit (Ticks n) l f h = h
+
+offered-fits : (e : Event) → EventFits e → Bytes (offered e)
+unfolding offered
+offered-fits PowerReset f = tt
+offered-fits (Write offset value) f = cond-case Bytes (eqb offset 0x16) (value ∷ []) [] (λ h. (f .1, tt)) (λ h. tt)
+offered-fits (Read offset) f = tt
+offered-fits (WordWrite word) f = (omega arith, (omega arith, tt))
+offered-fits WordRead f = tt
+offered-fits (Drive lines) f = tt
+offered-fits (Ticks n) f = tt
+
+-- A, by component
+registers-a : (r : Registers) (e : Event) → EventFits e → RegistersFit r → RegistersFit (registersA r e)
+unfolding registersA
+registers-a r e f i =
+    let v = value-of-fits e f in
+    record {
+      sxfr = cond-case (λ (x : Scsirate). x .sxfr < 8) (writes e SCSIRATE) (scsirateOf (valueOf e)) (r .scsirate) (λ h. omega arith) (λ h. i .sxfr);
+      sofs = cond-case (λ (x : Scsirate). x .sofs < 16) (writes e SCSIRATE) (scsirateOf (valueOf e)) (r .scsirate) (λ h. omega arith) (λ h. i .sofs);
+      oid = cond-case (λ (x : Scsiid). x .oid < 8) (writes e SCSIID) (scsiidOf (valueOf e)) (r .scsiid) (λ h. omega arith) (λ h. i .oid);
+      tid = cond-case (λ (x : Scsiid). x .tid < 8) (writes e SCSIID) (scsiidOf (valueOf e)) (r .scsiid) (λ h. omega arith) (λ h. i .tid);
+      scsidat = cond-case (λ n. n < 256) (writes e SCSIDAT) (valueOf e) (r .scsidat) (λ h. v) (λ h. i .scsidat);
+      brstcntrl = cond-case (λ n. n < 256) (writes e BRSTCNTRL) (valueOf e) (r .brstcntrl) (λ h. v) (λ h. i .brstcntrl);
+    }
+
+-- the host FIFO: the checks have left room for the whole access
+host-a : (e : Event) (host : List ℕ) → length host + length (offered e) ≤ 128 → length host ≤ 128 → length (hostA e host) ≤ 128
+unfolding hostA
+host-a e host room h = go (rstfifo e) (portWrite e)
+  where
+    go : (t w : Bool) → length (cond t [] (cond w (host ++ offered e) (drop (asked e) host))) ≤ 128
+    go true w = omega arith
+    go false true = simp length-append room
+    go false false = simp length-drop (omega arith)
+
+host-bytes-a : (e : Event) (host : List ℕ) → EventFits e → Bytes host → Bytes (hostA e host)
+unfolding hostA
+host-bytes-a e host f h = go (rstfifo e) (portWrite e)
+  where
+    go : (t w : Bool) → Bytes (cond t [] (cond w (host ++ offered e) (drop (asked e) host)))
+    go true w = tt
+    go false true = bytes-append host (offered e) h (offered-fits e f)
+    go false false = bytes-drop (asked e) host h
+
+-- one ACK more is in range, and so is a counter with one of its bytes written
+pub counted-fits : (n : ℕ) → counted n < counterSize
+unfolding counted
+counted-fits n = omega arith
+
+counter-a : (acked : Bool) (e : Event) (n : ℕ) → EventFits e → n < counterSize → counterA acked e n < counterSize
+unfolding counterA
+counter-a acked e n f h = go (clrstcnt e) (writes e STCNT0) (writes e STCNT1) (writes e STCNT2) acked
+  where
+    v : valueOf e < 256
+    v = value-of-fits e f
+
+    go : (z a b c k : Bool) → cond z 0 (cond a (counterWith 0 (valueOf e) n) (cond b (counterWith 1 (valueOf e) n) (cond c (counterWith 2 (valueOf e) n) (cond k (counted n) n)))) < counterSize
+    go true a b c k = omega arith
+    go false true b c k = omega (arith, v)
+    go false false true c k = omega (arith, v)
+    go false false false true k = omega (arith, v)
+    go false false false false true = counted-fits n
+    go false false false false false = h
+
+transfer-a : (acked : Bool) (t : Transfer) (e : Event) → EventFits e → length (t .host) + length (offered e) ≤ 128 → TransferFits t → TransferFits (transferA acked t e)
+unfolding transferA
+transfer-a acked t e f room i =
+    record {
+      host = host-a e (t .host) room (i .host);
+      scsi = cond-case (λ (l : List ℕ). length l ≤ 8) (clrch e) [] (t .scsi) (λ h. omega arith) (λ h. i .scsi);
+      counter = counter-a acked e (t .counter) f (i .counter);
+      offset = cond-case (λ n. n ≤ 8) (clrch e) 0 (t .offset) (λ h. omega arith) (λ h. i .offset);
+      last = i .last;
+      hostBytes = host-bytes-a e (t .host) f (i .hostBytes);
+      scsiBytes = cond-case Bytes (clrch e) [] (t .scsi) (λ h. tt) (λ h. i .scsiBytes);
+    }
+
+pointer-fits : (wide : Bool) (k : Stack) → pointerAfter wide k < 32
+unfolding pointerAfter stackPlace
+pointer-fits true k = omega arith
+pointer-fits false k = omega arith
+
+stack-written : (wide : Bool) (v : ℕ) (k : Stack) → v < 256 → StackFits k → StackFits (stackWritten wide v k)
+unfolding stackWritten
+stack-written wide v k h i =
+    record {
+      pointer = pointer-fits wide k;
+      size = length-set (k .bytes) (stackPlace wide k) v ∙ i .size;
+      bytes = bytes-set (k .bytes) (stackPlace wide k) v h (i .bytes);
+    }
+
+stack-a : (wide : Bool) (k : Stack) (e : Event) → EventFits e → StackFits k → StackFits (stackA wide k e)
+unfolding stackA stackRead pointed
+stack-a wide k e f i = go (writes e STACK) (reads e STACK) (writes e DMACNTRL1)
+  where
+    go : (w r p : Bool) → StackFits (cond w (stackWritten wide (valueOf e) k) (cond r (stackRead wide k) (cond p (pointed (valueOf e) k) k)))
+    go true r p = stack-written wide (valueOf e) k (value-of-fits e f) i
+    go false true p = record { pointer = pointer-fits wide k; size = i .size; bytes = i .bytes }
+    go false false true = record { pointer = omega arith; size = i .size; bytes = i .bytes }
+    go false false false = i
+
+identity-a : (n : ℕ) (e : Event) → n < 32 → identityA n e < 32
+unfolding identityA
+identity-a n e h = cond-case (λ m. m < 32) (reads e ID) ((n + 1) % 32) n (λ q. omega arith) (λ q. h)
+
+-- after A: nothing is out of range where the port has room
+after-a : (s : State) (e : Event) → EventFits e → length (s .transfer .host) + length (offered e) ≤ 128 → InRange s → InRange (afterA s e)
+unfolding afterA
+after-a s e f room i =
+    record {
+      byte = lines-fit e (s .lines) f (i .byte);
+      registers = registers-a (s .registers) e f (i .registers);
+      transfer = transfer-a (automaticAck s e) (s .transfer) e f room (i .transfer);
+      stack = stack-a (s .registers .dmacntrl1 .enstk32) (s .stack) e f (i .stack);
+      quiet = i .quiet;
+      identity = identity-a (s .identity) e (i .identity);
+    }
+
+-- the data driven and the data seen are bytes
+pub data-driven-fits : (r : Registers) (l : Lines) (t : Transfer) → RegistersFit r → TransferFits t → dataDriven r l t < 256
+unfolding dataDriven
+data-driven-fits r l t i j = go (driving r l t) (normal r)
+  where
+    go : (d n : Bool) → cond d (cond n (t .last) (r .scsidat)) 0 < 256
+    go true true = j .last
+    go true false = i .scsidat
+    go false n = omega arith
+
+pub data-seen-fits : (r : Registers) (l : Lines) (t : Transfer) → l .byte < 256 → RegistersFit r → TransferFits t → dataSeen r l t < 256
+unfolding dataSeen
+data-seen-fits r l t h i j = or-lt 8 (l .byte) (dataDriven r l t) h (data-driven-fits r l t i j)
+
+-- a REQ that is counted is below the limit, and a byte that is stored has room
+counted-room : (g a b : Bool) → (g && not (a || b)) ≡ true → a ≡ false
+counted-room g false b e = refl
+counted-room true true b e = sym e
+counted-room false true b e = sym e
+
+stored-room : (g a i c : Bool) → (g && not (a || (i && c)) && i) ≡ true → c ≡ false
+stored-room g a i false e = refl
+stored-room true true i true e = sym e
+stored-room true false true true e = sym e
+stored-room true false false true e = sym e
+stored-room false a i true e = sym e
+
+offset-room : (last now : State) (ticks : ℕ) → (edges last now ticks) .counted ≡ true → now .transfer .offset < 8
+unfolding edges beyondLimit limit
+offset-room last now ticks e =
+    omega (arith, leb-false (limit (now .registers)) (now .transfer .offset) (counted-room (synchronousReq last now) (leb (limit (now .registers)) (now .transfer .offset)) (ioSeen (now .registers) (now .lines) && leb 8 (length (now .transfer .scsi))) e))
+
+scsi-room : (last now : State) (ticks : ℕ) → (edges last now ticks) .stored ≡ true → length (now .transfer .scsi) < 8
+unfolding edges beyondLimit
+scsi-room last now ticks e =
+    leb-false 8 (length (now .transfer .scsi)) (stored-room (synchronousReq last now) (leb (limit (now .registers)) (now .transfer .offset)) (ioSeen (now .registers) (now .lines)) (leb 8 (length (now .transfer .scsi))) e)
+
+-- B, by component
+quiet-b : (last now : State) (ticks : ℕ) → (edges last now ticks) .quiet ≤ 8
+unfolding edges quietAfter
+quiet-b last now ticks = go (bsySeen (registersB (rstRises last now) false false (now .registers)) (now .lines) || selSeen (registersB (rstRises last now) false false (now .registers)) (now .lines))
+  where
+    go : (b : Bool) → cond b 0 (min 8 (now .quiet + ticks)) ≤ 8
+    go true = omega arith
+    go false = omega arith
+
+registers-b : (reset bad free : Bool) (r : Registers) → RegistersFit r → RegistersFit (registersB reset bad free r)
+unfolding registersB
+registers-b reset bad free r i =
+    record { sxfr = i .sxfr; sofs = i .sofs; oid = i .oid; tid = i .tid; scsidat = i .scsidat; brstcntrl = i .brstcntrl }
+
+transfer-b : (g : Edges) (byte : ℕ) (t : Transfer) → byte < 256 → (g .counted ≡ true → t .offset < 8) → (g .stored ≡ true → length (t .scsi) < 8) → TransferFits t → TransferFits (transferB g byte t)
+unfolding transferB
+transfer-b g byte t h up room i =
+    record {
+      host = i .host;
+      scsi = cond-case (λ (l : List ℕ). length l ≤ 8) (g .stored) (t .scsi ++ (byte ∷ [])) (t .scsi) (λ e. simp length-append (omega (arith, room e))) (λ e. i .scsi);
+      counter = i .counter;
+      offset =
+          cond-case (λ n. n ≤ 8) (g .rstrises || g .free) 0 (cond (g .counted) (t .offset + 1) (t .offset)) (λ e. omega arith)
+          (λ e. cond-case (λ n. n ≤ 8) (g .counted) (t .offset + 1) (t .offset) (λ q. omega (arith, up q)) (λ q. i .offset));
+      last = i .last;
+      hostBytes = i .hostBytes;
+      scsiBytes = cond-case Bytes (g .stored) (t .scsi ++ (byte ∷ [])) (t .scsi) (λ e. bytes-append (t .scsi) (byte ∷ []) (i .scsiBytes) (h, tt)) (λ e. i .scsiBytes);
+    }
+
+applied-fits : (last now : State) (ticks : ℕ) → InRange now → InRange (applied (edges last now ticks) last now)
+unfolding applied
+applied-fits last now ticks i =
+    let g = edges last now ticks in
+    record {
+      byte = i .byte;
+      registers = registers-b (g .rstrises) (g .paritybad) (g .free) (now .registers) (i .registers);
+      transfer =
+          transfer-b g (dataSeen (now .registers) (now .lines) (now .transfer)) (now .transfer)
+          (data-seen-fits (now .registers) (now .lines) (now .transfer) (i .byte) (i .registers) (i .transfer))
+          (offset-room last now ticks) (scsi-room last now ticks) (i .transfer);
+      stack = i .stack;
+      quiet = quiet-b last now ticks;
+      identity = i .identity;
+    }
+
+-- after B
+after-b : (s : State) (e : Event) → InRange (afterA s e) → InRange (afterB s e)
+unfolding edgesOf afterB
+after-b s e i = applied-fits s (afterA s e) (ticksOf e) i
+
+-- settling keeps the data path in range, and sends bytes only
+pub record SettlingFits (s : Settling) : Type 0 where
+  pub transfer : TransferFits (s .transfer)
+  pub sent : Bytes (s .sent)
+
+module _ (c : Conditions) (byte : c .byte < 256) (s : Settling) where
+  fits-move : canMove c (s .transfer) ≡ true → SettlingFits s → SettlingFits (move c s)
+  unfolding move
+  fits-move h f = record { transfer = go (c .outbound) refl; sent = f .sent }
+    where
+      i : TransferFits (s .transfer)
+      i = f .transfer
+
+      go : (o : Bool) → c .outbound ≡ o → TransferFits ((move c s) .transfer)
+      go true o =
+          let e = move-outbound c (s .transfer) o h in
+          let y = i .host in
+          record {
+            host = rw o (simp length-drop (omega arith));
+            scsi = rw o (simp (length-append, length-take) (omega arith));
+            counter = i .counter;
+            offset = i .offset;
+            last = i .last;
+            hostBytes = rw o (bytes-drop 1 (s .transfer .host) (i .hostBytes));
+            scsiBytes = rw o (bytes-append (s .transfer .scsi) (take 1 (s .transfer .host)) (i .scsiBytes) (bytes-take 1 (s .transfer .host) (i .hostBytes)));
+          }
+      go false o =
+          let e = move-inbound c (s .transfer) o h in
+          let x = i .scsi in
+          record {
+            host = rw o (simp (length-append, length-take) (omega arith));
+            scsi = rw o (simp length-drop (omega arith));
+            counter = i .counter;
+            offset = i .offset;
+            last = i .last;
+            hostBytes = rw o (bytes-append (s .transfer .host) (take 1 (s .transfer .scsi)) (i .hostBytes) (bytes-take 1 (s .transfer .scsi) (i .scsiBytes)));
+            scsiBytes = rw o (bytes-drop 1 (s .transfer .scsi) (i .scsiBytes));
+          }
+
+  fits-handshake : canHandshake c (s .transfer) ≡ true → SettlingFits s → SettlingFits (handshake c s)
+  unfolding handshake
+  fits-handshake h f =
+      record {
+        transfer =
+            record {
+              host = i .host;
+              scsi = scsi (c .outbound) (c .synchronous) refl refl;
+              counter = counted-fits (s .transfer .counter);
+              offset = cond-case (λ n. n ≤ 8) (c .synchronous) (s .transfer .offset - 1) (s .transfer .offset) (λ y. omega (arith, i .offset)) (λ y. i .offset);
+              last = cond-case (λ n. n < 256) (c .outbound) (getD (s .transfer .scsi) 0 0) (s .transfer .last) (λ o. bytes-at (s .transfer .scsi) 0 (i .scsiBytes)) (λ o. i .last);
+              hostBytes = i .hostBytes;
+              scsiBytes = cond-case Bytes (c .outbound) (drop 1 (s .transfer .scsi)) (s .transfer .scsi ++ storedBy c) (λ o. bytes-drop 1 (s .transfer .scsi) (i .scsiBytes)) (λ o. bytes-append (s .transfer .scsi) (storedBy c) (i .scsiBytes) stored);
+            };
+        sent = cond-case Bytes (c .outbound) (s .sent ++ take 1 (s .transfer .scsi)) (s .sent) (λ o. bytes-append (s .sent) (take 1 (s .transfer .scsi)) (f .sent) (bytes-take 1 (s .transfer .scsi) (i .scsiBytes))) (λ o. f .sent);
+      }
+    where
+      i : TransferFits (s .transfer)
+      i = f .transfer
+
+      stored : Bytes (storedBy c)
+      stored = cond-case Bytes (c .synchronous) [] (c .byte ∷ []) (λ y. tt) (λ y. (byte, tt))
+
+      scsi : (o y : Bool) → c .outbound ≡ o → c .synchronous ≡ y → length (cond o (drop 1 (s .transfer .scsi)) (s .transfer .scsi ++ cond y [] (c .byte ∷ []))) ≤ 8
+      scsi true y o e = simp length-drop (omega (arith, i .scsi))
+      scsi false true o e = simp length-append (omega (arith, i .scsi))
+      scsi false false o e = simp length-append (omega (arith, handshake-inbound c (s .transfer) o e h))
+
+pub fits-settle : (c : Conditions) → c .byte < 256 → (n : ℕ) (s : Settling) → SettlingFits s → SettlingFits (settle c n s)
+fits-settle c byte = settle-keeps SettlingFits c (fits-move c byte) (fits-handshake c byte)
+
+-- the byte on the bus, as settling sees it
+pub conditions-byte : (s : State) → InRange s → (conditions s) .byte < 256
+unfolding conditions
+conditions-byte s i = data-seen-fits (s .registers) (s .lines) (s .transfer) (i .byte) (i .registers) (i .transfer)
+
+pub settled-fits : (s : State) (e : Event) → InRange (afterB s e) → SettlingFits (settledC s e)
+unfolding settledC started
+settled-fits s e i =
+    fits-settle (conditions (afterB s e)) (conditions-byte (afterB s e) i) turns (started (afterB s e)) (record { transfer = i .transfer; sent = tt })
+
+pub settled-reports : (s : State) (e : Event) → InRange (afterB s e) → Report (conditions (afterB s e)) (settledC s e)
+unfolding settledC
+settled-reports s e i =
+    settling-reports (conditions (afterB s e)) turns (afterB s e) (i .transfer .scsi) (i .transfer .offset)
+
+-- after D
+pub after-d : (s : State) (e : Event) → InRange (afterB s e) → InRange (afterD s e)
+unfolding afterD finished
+after-d s e i =
+    record {
+      byte = i .byte;
+      registers = i .registers;
+      transfer = settled-fits s e i .transfer;
+      stack = i .stack;
+      quiet = i .quiet;
+      identity = i .identity;
+    }
+
+-- every register reads as a byte
+pub read-fits : (s : State) (r : Register) → InRange s → readOf s r < 256
+unfolding readOf scsisigi scsibus sstat0 sstat1 sstat2 sstat3 sstat4 dmastat idBytes stackByte
+read-fits s SCSISEQ i =
+    let q = s .registers .scsiseq in
+    byte-fits (q .temodeo) (q .enselo) (q .enseli) (q .enrseli) (q .enautoatno) (q .enautoatni) (q .enautoatnp) (q .scsirsto)
+read-fits s SXFRCTL0 i =
+    let q = s .registers .sxfrctl0 in
+    byte-fits (q .scsien) (q .dmaen) (q .chen) false (q .spioen) false false false
+read-fits s SXFRCTL1 i =
+    let q = s .registers .sxfrctl1 in
+    byte-fits (q .bitbucket) (q .swrapen) (q .enspchk) (q .stimesel1) (q .stimesel0) (q .enstimer) (q .bytealign) false
+read-fits s SCSISIGI i =
+    let r = s .registers in
+    let l = s .lines in
+    byte-fits (l .cd) (l .io) (l .msg) (atnSeen r l) (selSeen r l) (bsySeen r l) (l .req) (ackSeen r l (s .transfer))
+read-fits s SELID i = omega arith
+read-fits s SCSIDAT i = data-seen-fits (s .registers) (s .lines) (s .transfer) (i .byte) (i .registers) (i .transfer)
+read-fits s SCSIBUS i = data-seen-fits (s .registers) (s .lines) (s .transfer) (i .byte) (i .registers) (i .transfer)
+read-fits s STCNT0 i = omega arith
+read-fits s STCNT1 i = omega arith
+read-fits s STCNT2 i = omega arith
+read-fits s SSTAT0 i = byte-fits false false false false false false (s .status .spiordy) false
+read-fits s SSTAT1 i =
+    let q = s .status in
+    byte-fits false false (q .scsirsti) (phasemis s) (q .busfree) (q .scsiperr) (q .phasechg) (q .reqinit)
+read-fits s SSTAT2 i =
+    let n = length (s .transfer .scsi) in
+    omega (arith, one-fits (not (eqb (s .transfer .offset) 0)), one-fits (eqb n 0), one-fits (eqb n 8))
+read-fits s SSTAT3 i = omega (arith, i .transfer .offset)
+read-fits s SSTAT4 i = byte-fits false false false false false (s .status .syncerr) (s .status .fwerr) false
+read-fits s SIMODE0 i =
+    let q = s .registers .simode0 in
+    byte-fits false (q .enseldo) (q .enseldi) (q .enselingo) (q .enswrap) (q .ensdone) (q .enspiordy) (q .endmadone)
+read-fits s SIMODE1 i =
+    let q = s .registers .simode1 in
+    byte-fits (q .enseltimo) (q .enatntarg) (q .enscsirst) (q .enphasemis) (q .enbusfree) (q .enscsiperr) (q .enphasechg) (q .enreqinit)
+read-fits s DMACNTRL0 i =
+    let q = s .registers .dmacntrl0 in
+    byte-fits (q .endma) (q .eightbit) (q .dma) (q .dwordpio) (q .write) (q .inten) false (q .swint)
+read-fits s DMACNTRL1 i =
+    let q = s .registers .dmacntrl1 in
+    omega (arith, one-fits (q .pwrdwn), one-fits (q .enstk32), i .stack .pointer)
+read-fits s DMASTAT i =
+    let n = length (s .transfer .host) in
+    byte-fits false (not (s .registers .dmacntrl0 .write) && leb 2 n) (instat s) (eqb n 128) (eqb n 0) (leb 64 n) false false
+read-fits s FIFOSTAT i = omega (arith, i .transfer .host)
+read-fits s DMADATA i = bytes-at (s .transfer .host) 0 (i .transfer .hostBytes)
+read-fits s BRSTCNTRL i = i .registers .brstcntrl
+read-fits s REV i = omega arith
+read-fits s STACK i = bytes-at (s .stack .bytes) (stackPlace (s .registers .dmacntrl1 .enstk32) (s .stack)) (i .stack .bytes)
+read-fits s ID i = bytes-at idBytes (s .identity) (bytes-computed idBytes refl)
+read-fits s SCSISIGO i = omega arith
+read-fits s SCSIRATE i = omega arith
+read-fits s SCSIID i = omega arith
+read-fits s CLRSINT0 i = omega arith
+read-fits s CLRSINT1 i = omega arith
+read-fits s SCSITEST i = omega arith
+read-fits s CLRSERR i = omega arith
+read-fits s TEST i = omega arith
+
+-- every value read has at most 16 bits
+pub value-fits : (s : State) (e : Event) → InRange s → valueRead s e < 65536
+unfolding valueRead
+value-fits s PowerReset i = omega arith
+value-fits s (Write offset value) i = omega arith
+value-fits s (Read offset) i = mapped (readAt offset)
+  where
+    mapped : (m : Mapped) → readMapped s m < 65536
+    mapped (Present r) = omega (arith, read-fits s r i)
+    mapped Missing = omega arith
+value-fits s (WordWrite word) i = omega arith
+value-fits s WordRead i =
+    omega (arith, bytes-at (s .transfer .host) 0 (i .transfer .hostBytes), bytes-at (s .transfer .host) 1 (i .transfer .hostBytes))
+value-fits s (Drive lines) i = omega arith
+value-fits s (Ticks n) i = omega arith
+
+refused-value-fits : (e : Event) → refusedValue e < 65536
+unfolding refusedValue
+refused-value-fits PowerReset = omega arith
+refused-value-fits (Write offset value) = omega arith
+refused-value-fits (Read offset) = omega arith
+refused-value-fits (WordWrite word) = omega arith
+refused-value-fits WordRead = omega arith
+refused-value-fits (Drive lines) = omega arith
+refused-value-fits (Ticks n) = omega arith
+
+-- POWER RESET IS IN RANGE
+pub power-reset-fits : InRange powerReset
+unfolding powerReset
+power-reset-fits =
+    record {
+      byte = omega arith;
+      registers = omega arith;
+      transfer = record { host = omega arith; scsi = omega arith; counter = omega arith; offset = omega arith; last = omega arith; hostBytes = tt; scsiBytes = tt };
+      stack = record { pointer = omega arith; size = refl; bytes = bytes-zeros 32 };
+      quiet = omega arith;
+      identity = omega arith;
+    }
+
+-- what a step gives is in range: the state; a value of 16 bits; "at most 16" moves; "ACKs at most 8"; at most 8 bytes sent
+pub record StepFits (r : Stepped) : Type 0 where
+  pub state : InRange (r .state)
+  pub value : r .value < 65536
+  pub moves : r .moves ≤ 16
+  pub acks : r .acks ≤ 8
+  pub sent : length (r .sent) ≤ 8
+  pub sentBytes : Bytes (r .sent)
+
+refused-fits : (s : State) (code : Code) (value : ℕ) → value < 65536 → InRange s → StepFits (refused s code value)
+unfolding refused
+refused-fits s code value h i =
+    record { state = i; value = h; moves = omega arith; acks = omega arith; sent = omega arith; sentBytes = tt }
+
+-- an access that is done has room at the port
+first-room : (a t h r b : Bool) → isDone (first (check a Absent ∷ check t TestValue ∷ check h Shut ∷ check r NoRoom ∷ check b NoBytes ∷ [])) ≡ true → r ≡ false
+first-room true t h r b e = absurd (never e)
+first-room false true h r b e = absurd (never e)
+first-room false false true r b e = absurd (never e)
+first-room false false false true b e = absurd (never e)
+first-room false false false false b e = refl
+
+port-room : (s : State) (e : Event) → isDone (accessCode s e) ≡ true → length (s .transfer .host) + length (offered e) ≤ 128
+unfolding accessCode noRoom
+port-room s e d =
+    ltb-false 128 (length (s .transfer .host) + length (offered e))
+    (first-room (absent e) (testValue e) (shut (s .registers) e) (noRoom s e) (noBytes s e) d)
+
+-- an access that is done leaves the state in range after A, and after B
+pub after-a-fits : (s : State) (e : Event) → EventFits e → isDone (accessCode s e) ≡ true → InRange s → InRange (afterA s e)
+after-a-fits s e f d i = after-a s e f (port-room s e d) i
+
+pub after-b-fits : (s : State) (e : Event) → EventFits e → isDone (accessCode s e) ≡ true → InRange s → InRange (afterB s e)
+after-b-fits s e f d i = after-b s e (after-a-fits s e f d i)
+
+done-fits : (s : State) (e : Event) → EventFits e → isDone (accessCode s e) ≡ true → InRange s → StepFits (done s e)
+unfolding done
+done-fits s e f d i =
+    let b = after-b-fits s e f d i in
+    let r = settled-reports s e b in
+    record {
+      state = after-d s e b;
+      value = value-fits s e i;
+      moves = r .moves;
+      acks = r .acks;
+      sent = r .sent;
+      sentBytes = settled-fits s e b .sent;
+    }
+
+access-fits : (s : State) (e : Event) → EventFits e → InRange s → StepFits (access s e)
+unfolding access
+access-fits s e f i =
+    cond-case StepFits (isDone (accessCode s e)) (done s e) (refused s (accessCode s e) (refusedValue e)) (λ d. done-fits s e f d i)
+    (λ d. refused-fits s (accessCode s e) (refusedValue e) (refused-value-fits e) i)
+
+event-step-fits : (s : State) (e : Event) → EventFits e → InRange s → StepFits (stepEvent s e)
+unfolding stepEvent
+event-step-fits s PowerReset f i = refused-fits powerReset Done 0 (omega arith) power-reset-fits
+event-step-fits s (Write offset value) f i = access-fits s (Write offset value) f i
+event-step-fits s (Read offset) f i = access-fits s (Read offset) f i
+event-step-fits s (WordWrite word) f i = access-fits s (WordWrite word) f i
+event-step-fits s WordRead f i = access-fits s WordRead f i
+event-step-fits s (Drive lines) f i = access-fits s (Drive lines) f i
+event-step-fits s (Ticks n) f i = access-fits s (Ticks n) f i
+
+decoded-step-fits : (s : State) (d : Decoded) → DecodedFits d → InRange s → StepFits (stepDecoded s d)
+unfolding stepDecoded
+decoded-step-fits s (Well e) f i = event-step-fits s e f i
+decoded-step-fits s Ill f i = refused-fits s Malformed 0 (omega arith) i
+
+-- EVERY RECORD, whatever numbers it holds, leaves the state in range and reports at most 16 moves, 8 ACKs and 8 bytes
+pub step-fits : (s : State) (bytes : List ℕ) → InRange s → StepFits (step s bytes)
+unfolding step
+step-fits s bytes i = decoded-step-fits s (decode bytes) (decode-fits bytes) i
+
+-- and so does every list of records
+pub after-fits : (s : State) (records : List (List ℕ)) → InRange s → InRange (after s records)
+after-fits s [] i = i
+after-fits s (bytes ∷ more) i = after-fits ((step s bytes) .state) more (step-fits s bytes i .state)
+
+-- FROM POWER RESET, AFTER ANY LIST OF RECORDS, THE STATE IS IN RANGE
+pub always-in-range : (records : List (List ℕ)) → InRange (after powerReset records)
+always-in-range records = after-fits powerReset records power-reset-fits
+
+-- an answer is sixteen bytes
+pub record AnswerFits (l : List ℕ) : Type 0 where
+  pub size : length l ≡ 16
+  pub bytes : Bytes l
+
+code-fits : (c : Code) → numberOf c < 8
+code-fits Done = omega arith
+code-fits Malformed = omega arith
+code-fits Absent = omega arith
+code-fits Shut = omega arith
+code-fits NoRoom = omega arith
+code-fits NoBytes = omega arith
+code-fits BeyondLimit = omega arith
+code-fits TestValue = omega arith
+
+control-fits : (s : State) → controlDriven s < 256
+unfolding controlDriven
+control-fits s =
+    let g = s .registers .scsisig in
+    byte-fits false false false (g .atno) (g .selo) (g .bsyo) false (ackDriven (s .registers) (s .transfer))
+
+sent-size : (l : List ℕ) → length l ≤ 8 → length (padded 8 l) ≡ 8
+unfolding padded
+sent-size l h = simp (length-append, length-replicate) (omega arith)
+
+sent-fits : (l : List ℕ) → Bytes l → Bytes (padded 8 l)
+unfolding padded
+sent-fits l h = bytes-append l (replicate (8 - length l) 0) h (bytes-zeros (8 - length l))
+
+stepped-answer-fits : (r : Stepped) → StepFits r → AnswerFits (answerBytes (answerOf r))
+unfolding answerOf answerBytes
+stepped-answer-fits r f =
+    let s = r .state in
+    record {
+      size = rw (sent-size (r .sent) (f .sent));
+      bytes = (
+        omega (arith, code-fits (r .code), one-fits (irq s)),
+        (
+          omega (arith, one-fits (driving (s .registers) (s .lines) (s .transfer)), one-fits (s .registers .scsiseq .scsirsto), one-fits (parityDriven (s .registers) (s .lines) (s .transfer))),
+          (
+            omega arith,
+            (
+              omega arith,
+              (
+                control-fits s,
+                (
+                  data-driven-fits (s .registers) (s .lines) (s .transfer) (f .state .registers) (f .state .transfer),
+                  (
+                    omega arith,
+                    (
+                      omega (arith, f .state .transfer .host),
+                      sent-fits (r .sent) (f .sentBytes),
+                    ),
+                  ),
+                ),
+              ),
+            ),
+          ),
+        ),
+      );
+    }
+
+-- EVERY ANSWER IS SIXTEEN BYTES, each below 256
+pub answer-fits : (s : State) (bytes : List ℕ) → InRange s → AnswerFits (answer s bytes)
+unfolding answer
+answer-fits s bytes i = stepped-answer-fits (step s bytes) (step-fits s bytes i)
