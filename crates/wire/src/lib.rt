@@ -7,7 +7,6 @@ ghost use Rattle.rules.specs.Records.{linesOf, payloadOf, payloadLimit, offsetL
 ghost use Rattle.rules.specs.Codes.{numberOf, refusedValue};
 ghost use Rattle.rules.specs.Answers.{answerBytes};
 ghost use Rattle.wire.specs.Written.{written};
-
 use laws::bit_of;
 use rules::code_number;
 use rules::codes::Code;
@@ -20,7 +19,8 @@ use rules::records::Lines;
 fn payload(b1: u8, b2: u8, b3: u8) -> u32
     ensures { λ r. ⌜ r ≡ payloadOf b1 b2 b3 ⌝ }
 {
-    (((b1 as u32) << 8 | (b2 as u32)) << 8) | (b3 as u32)
+    let high = ((b1 as u32) << 8) | (b2 as u32);
+    (high << 8) | (b3 as u32)
 }
 
 // The lines of kind 5: data in bits 17 to 10, then a bit for each.
@@ -78,7 +78,10 @@ fn event_of(kind: u8, offset: u8, p: u32) -> Decoded
 {
     match kind {
         0 => Decoded::Well(Event::PowerReset),
-        1 => Decoded::Well(Event::Write { offset: offset, value: p as u8 }),
+        1 => Decoded::Well(Event::Write {
+            offset: offset,
+            value: p as u8,
+        }),
         2 => Decoded::Well(Event::Read { offset: offset }),
         3 => Decoded::Well(Event::WordWrite(p as u16)),
         4 => Decoded::Well(Event::WordRead),
@@ -122,7 +125,10 @@ pub fn refused_value(e: Event) -> u16
 {
     match e {
         Event::PowerReset => 0,
-        Event::Write { offset: _, value: _ } => 0,
+        Event::Write {
+            offset: _,
+            value: _,
+        } => 0,
         Event::Read { offset: _ } => 0xFF,
         Event::WordWrite(_) => 0,
         Event::WordRead => 0xFFFF,
@@ -135,14 +141,17 @@ pub fn refused_value(e: Event) -> u16
 fn code_byte(code: Code, irq: bool, acks: u8) -> u8
     ensures { λ r. ⌜ r ≡ (numberOf code * 2 + one irq) * 16 + acks % 16 ⌝ }
 {
-    (((code_number(code) << 1) | (irq as u8)) << 4) | (acks & 15)
+    let high = (code_number(code) << 1) | (irq as u8);
+    (high << 4) | (acks & 15)
 }
 
 // Moves 5 bits, then whether data, RST and parity are driven.
 fn moves_byte(moves: u8, driving: bool, rst: bool, parity: bool) -> u8
     ensures { λ r. ⌜ r ≡ ((moves % 32 * 2 + one driving) * 2 + one rst) * 2 + one parity ⌝ }
 {
-    (((((((moves & 31) << 1) | (driving as u8)) << 1) | (rst as u8)) << 1) | (parity as u8))
+    let six = ((moves & 31) << 1) | (driving as u8);
+    let seven = (six << 1) | (rst as u8);
+    (seven << 1) | (parity as u8)
 }
 
 // Offset 4 bits, SCSI FIFO count 4.
@@ -164,8 +173,22 @@ pub fn answer_bytes(a: Answer) -> [u8; 16]
     let low = (a.value & 255) as u8;
     let seventh = offset_byte(a.offset, a.scsi);
     [
-        first, second, high, low, a.control, a.driven, seventh, a.host, sent[0], sent[1], sent[2],
-        sent[3], sent[4], sent[5], sent[6], sent[7],
+        first,
+        second,
+        high,
+        low,
+        a.control,
+        a.driven,
+        seventh,
+        a.host,
+        sent[0],
+        sent[1],
+        sent[2],
+        sent[3],
+        sent[4],
+        sent[5],
+        sent[6],
+        sent[7],
     ]
 }
 

@@ -1,4 +1,4 @@
-use Prim.Native.Nat.{ℕ, _+_, _*_}
+use Prim.Native.Nat.{_+_, _*_}
 use native.Mathlib.Omega.{arith}
 use borrow.Author.Needs.{needs}
 use Rattle.rules.specs.Numbers.{one}
@@ -13,7 +13,8 @@ returns c =
     let a = c .before .args in
     let n = number-below (a .code) in
     let i = one-below (a .irq) in
-    rw (c .code-number .ensures, join-bit 8 (numberOf (a .code)) (a .irq) (omega arith)) (join-field 8 4 (numberOf (a .code) * 2 + one (a .irq)) (a .acks) (omega arith))
+    rw (c .code-number .ensures, join-bit 8 (numberOf (a .code)) (a .irq) (omega arith))
+    (join-field 8 4 (numberOf (a .code) * 2 + one (a .irq)) (a .acks) (omega arith))
 
 pub code-byte-spec : {M : Type 1} → statement M
 code-byte-spec = tie.close (tie.spec (λ c κs. search needs) (λ c. search needs) returns)

@@ -1,5 +1,3 @@
-use mathlib.Core.Path.{_∙_}
-use Prim.Native.Nat.{ℕ, _/_, _%_}
 use native.Mathlib.Omega.{arith}
 use lib.Bits.{and-mask}
 use lib.ListN.{length, getD}
@@ -13,7 +11,8 @@ four : tie.Need-returns
 unfolding decode
 four c =
     let l = c .before .before .before .before .before .before .before .before .args .bytes .now in
-    rw (eq-eqb (length l) 4 (omega arith), ← and-mask (getD l 0 0) 5, ← c .before .payload .ensures) (c .fields .ensures)
+    rw (eq-eqb (length l) 4 (omega arith), ← and-mask (getD l 0 0) 5, ← c .before .payload .ensures)
+    (c .fields .ensures)
 
 other : tie.Need-returns-2
 unfolding decode

@@ -1,9 +1,9 @@
-use mathlib.Core.Path.{_≡_, refl, ap}
-use Prim.Native.Nat.{ℕ, _<_}
+use mathlib.Core.Path.{_≡_, refl}
+use Prim.Native.Nat.{_<_}
 use native.Mathlib.Omega.{arith}
 use borrow.Author.Needs.{needs}
-use Rattle.rules.specs.Records.{payloadLimit, eventOf}
-use Rattle.rules.specs.declared.records.Decoded.the-variants.{Well, Ill}
+use Rattle.rules.specs.Records.{eventOf}
+use Rattle.rules.specs.declared.records.Decoded.the-variants.{Ill}
 use Rattle.laws.proofs.Tables.{in-rest}
 use Rattle.wire.proofs.event_of.Statement.{statement}
 use Rattle.wire.proofs.event_of.Tie as tie

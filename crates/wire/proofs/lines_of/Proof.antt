@@ -1,5 +1,5 @@
 use Prim.Native.Nat.{_/_}
-use lib.Bits.{mask-lt, and-mask}
+use lib.Bits.{mask-lt}
 use borrow.Author.Needs.{needs}
 use Rattle.rules.specs.Records.{linesOf}
 use Rattle.laws.proofs.Bits.{field-and}

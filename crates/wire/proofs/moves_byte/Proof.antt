@@ -1,4 +1,4 @@
-use Prim.Native.Nat.{ℕ, _+_, _*_, _%_}
+use Prim.Native.Nat.{_+_, _*_, _%_}
 use native.Mathlib.Omega.{arith}
 use lib.Bits.{and-mask}
 use borrow.Author.Needs.{needs}
@@ -12,8 +12,11 @@ returns c =
     let a = c .args in
     let d = one-below (a .driving) in
     let r = one-below (a .rst) in
-    rw (and-mask (a .moves) 5, join-bit 8 (a .moves % 32) (a .driving) (omega arith),
-    join-bit 8 (a .moves % 32 * 2 + one (a .driving)) (a .rst) (omega arith))
+    rw (
+      and-mask (a .moves) 5,
+      join-bit 8 (a .moves % 32) (a .driving) (omega arith),
+      join-bit 8 (a .moves % 32 * 2 + one (a .driving)) (a .rst) (omega arith),
+    )
     (join-bit 8 ((a .moves % 32 * 2 + one (a .driving)) * 2 + one (a .rst)) (a .parity) (omega arith))
 
 pub moves-byte-spec : {M : Type 1} → statement M

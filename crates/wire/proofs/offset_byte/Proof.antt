@@ -1,4 +1,4 @@
-use Prim.Native.Nat.{ℕ, _%_}
+use Prim.Native.Nat.{_%_}
 use native.Mathlib.Omega.{arith}
 use lib.Bits.{and-mask}
 use Rattle.laws.proofs.Bits.{join-field}

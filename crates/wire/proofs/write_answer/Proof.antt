@@ -11,7 +11,8 @@ sixteen : tie.Need-returns
 unfolding written
 sixteen c =
     let out = c .before .before .before .before .before .before .before .args .out .now in
-    rw (eq-eqb (length out) 16 (omega arith)) (c .before .before .store .ensures ∙ c .before .before .before .before .answer-bytes .ensures)
+    rw (eq-eqb (length out) 16 (omega arith))
+    (c .before .before .store .ensures ∙ c .before .before .before .before .answer-bytes .ensures)
 
 other : tie.Need-returns-2
 unfolding written
