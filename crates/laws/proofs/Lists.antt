@@ -63,3 +63,19 @@ first-none n l e = rw e
 
 pub first-some : (n : ℕ) (l : List ℕ) → (n ≡ 0 → ⊥) → getD l 0 0 ≡ getD (take n l) 0 0
 first-some n l h = sym (getD-take n l 0 0 (omega arith))
+
+-- n elements from a place on, one by one
+abbrev pub elements : List ℕ → ℕ → ℕ → List ℕ
+elements l i zero = []
+elements l i (suc n) = getD l i 0 ∷ elements l (suc i) n
+
+elements-tail : (x : ℕ) (l : List ℕ) (i n : ℕ) → elements (x ∷ l) (suc i) n ≡ elements l i n
+elements-tail x l i zero = refl
+elements-tail x l i (suc n) = ap (λ (r : List ℕ). getD l i 0 ∷ r) (elements-tail x l (suc i) n)
+
+-- all of them are the list
+pub elements-all : (n : ℕ) (l : List ℕ) → length l ≡ n → elements l 0 n ≡ l
+elements-all zero [] e = refl
+elements-all zero (x ∷ l) e = absurd (omega arith)
+elements-all (suc n) [] e = absurd (omega arith)
+elements-all (suc n) (x ∷ l) e = ap (λ (r : List ℕ). x ∷ r) (elements-tail x l 0 n ∙ elements-all n l (omega arith))
