@@ -1,4 +1,5 @@
 pub mod Computes
 pub mod Logic
 pub mod Marked
+pub mod Rest
 pub mod Settling
