@@ -26,14 +26,18 @@ bit-past w n k h l = rw (div-eq-of-lt {n = n} {m = 2 ^ k} (lt-of-lt-of-le h (pow
 pub join : (w k a b : ℕ) → a * 2 ^ k < 2 ^ w → b < 2 ^ k → bitOr (a * 2 ^ k % 2 ^ w) b ≡ a * 2 ^ k + b
 join w k a b h l = rw (mod-eq-of-lt {n = a * 2 ^ k} {m = 2 ^ w} h) (or-shifted a k b l)
 
--- (a << k) | (b & (2 ^ k - 1)): a field of k bits put behind what is there
-pub join-field : (w k a b : ℕ) → a * 2 ^ k < 2 ^ w → bitOr (a * 2 ^ k % 2 ^ w) (bitAnd b (2 ^ k - 1)) ≡ a * 2 ^ k + b % 2 ^ k
-join-field w k a b h = rw (← and-mask b k) (join w k a (bitAnd b (2 ^ k - 1)) h (mask-lt b k))
+-- the same for an x that is a: packing field after field, each law goes on from the equation that the one before it gave
+pub joined : (w k : ℕ) {x a : ℕ} (b : ℕ) → x ≡ a → a * 2 ^ k < 2 ^ w → b < 2 ^ k → bitOr (x * 2 ^ k % 2 ^ w) b ≡ a * 2 ^ k + b
+joined w k {a = a} b e h l = rw e (join w k a b h l)
 
--- (a << 1) | b: a bit put behind what is there
-pub join-bit : (w a : ℕ) (b : Bool) → a * 2 < 2 ^ w → bitOr (a * 2 % 2 ^ w) (boolByte b) ≡ a * 2 + one b
-join-bit w a true h = join w 1 a 1 h (omega arith)
-join-bit w a false h = join w 1 a 0 h (omega arith)
+-- (x << k) | (b & (2 ^ k - 1))
+pub joined-field : (w k : ℕ) {x a : ℕ} (b : ℕ) → x ≡ a → a * 2 ^ k < 2 ^ w → bitOr (x * 2 ^ k % 2 ^ w) (bitAnd b (2 ^ k - 1)) ≡ a * 2 ^ k + b % 2 ^ k
+joined-field w k b e h = rw (← and-mask b k) (joined w k (bitAnd b (2 ^ k - 1)) e h (mask-lt b k))
+
+-- (x << 1) | b
+pub joined-bit : (w : ℕ) {x a : ℕ} (b : Bool) → x ≡ a → a * 2 < 2 ^ w → bitOr (x * 2 % 2 ^ w) (boolByte b) ≡ a * 2 + one b
+joined-bit w true e h = joined w 1 1 e h (omega arith)
+joined-bit w false e h = joined w 1 0 e h (omega arith)
 
 pub one-below : (b : Bool) → one b < 2
 one-below true = omega arith
