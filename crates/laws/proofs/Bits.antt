@@ -1,12 +1,14 @@
 -- Masks, shifts and packing by the definitions' bit and field: each law once, over the bit index or the width.
-use mathlib.Core.Path.{_≡_, ap}
-use mathlib.Core.Bool.{false}
-use Prim.Native.Nat.{ℕ, _+_, _*_, _/_, _%_, _^_, _-_, _≤_, _<_}
-use native.Mathlib.Nat.{mod-eq-of-lt, div-eq-of-lt, lt-of-lt-of-le}
+use mathlib.Core.Path.{_≡_, refl, ap}
+use mathlib.Core.Bool.{Bool, true, false}
+use Prim.Native.Nat.{ℕ, zero, suc, _+_, _*_, _/_, _%_, _^_, _-_, _≤_, _<_}
+use native.Mathlib.Nat.{mod-eq-of-lt, div-eq-of-lt, lt-of-lt-of-le, div-one, div-div-eq-div-mul, pow-succ', add-zero, zero-add, add-assoc}
+use native.Mathlib.Omega.{arith}
 use lib.Pow.{pow-mono}
 use lib.Dec.{eqb}
 use lib.Bits.{bitAnd, bitOr, or-shifted, and-mask}
-use Rattle.rules.specs.Numbers.{bit, field}
+use mir.Val.{boolByte}
+use Rattle.rules.specs.Numbers.{bit, field, one, onesIn, ones}
 
 -- (n >> k) & (2 ^ w - 1)
 pub field-and : (n k w : ℕ) → bitAnd (n / 2 ^ k) (2 ^ w - 1) ≡ field n k w
@@ -23,3 +25,26 @@ bit-past w n k h l = rw (div-eq-of-lt {n = n} {m = 2 ^ k} (lt-of-lt-of-le h (pow
 -- (a << k) | b in a word of w bits, where nothing is lost and b is below the shift
 pub join : (w k a b : ℕ) → a * 2 ^ k < 2 ^ w → b < 2 ^ k → bitOr (a * 2 ^ k % 2 ^ w) b ≡ a * 2 ^ k + b
 join w k a b h l = rw (mod-eq-of-lt {n = a * 2 ^ k} {m = 2 ^ w} h) (or-shifted a k b l)
+
+-- a bool as a number
+pub one-of : (b : Bool) → boolByte b ≡ one b
+one-of true = refl
+one-of false = refl
+
+pub one-le : (b : Bool) → boolByte b ≤ 1
+one-le true = omega arith
+one-le false = omega arith
+
+-- one bit more
+pub ones-next : (n v : ℕ) → onesIn n v + v / 2 ^ n % 2 ≡ onesIn (suc n) v
+ones-next zero v = simp (div-one, zero-add, add-zero)
+ones-next (suc n) v = rw (add-assoc, pow-succ', ← (div-div-eq-div-mul v 2 (2 ^ n)), ones-next n (v / 2))
+
+-- no more ones than bits
+pub ones-le : (n v : ℕ) → onesIn n v ≤ n
+ones-le zero v = omega arith
+ones-le (suc n) v = omega (arith, ones-le n (v / 2))
+
+pub byte-ones-le : (v : ℕ) → ones v ≤ 8
+unfolding ones
+byte-ones-le v = ones-le 8 v

@@ -1,11 +1,11 @@
 -- The table of registers at every offset: what stands at an offset names that offset, and past the table there is nothing.
 use Prim.Native.Nat.{ℕ, _≤_, _<_}
-use mathlib.Core.Path.{_≡_, refl, ap, subst}
+use mathlib.Core.Path.{_≡_, refl, subst}
 use mathlib.Core.Bool.{Bool, true, false}
 use borrow.Author.Tests.{ltb-true, ltb-false}
 use lib.Dec.{T, eqb, ltb, eqb→eq}
 use lib.ListN.{List·getD-eq-default}
-use Rattle.rules.specs.Map.{Row, table, nothing, readAt, writtenAt, offsetOf}
+use Rattle.rules.specs.Map.{table, nothing, readAt, writtenAt, offsetOf}
 use Rattle.rules.specs.declared.map.Register.{Register}
 use Rattle.rules.specs.declared.map.Mapped.{Mapped}
 use Rattle.rules.specs.declared.map.Mapped.the-variants.{Present, Missing}
