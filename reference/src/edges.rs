@@ -1,0 +1,105 @@
+//! Step B: edges, in the order of document 01.
+
+use crate::answer::{odd_parity, Code};
+use crate::chip::{Before, Chip};
+use crate::registers::*;
+
+impl Chip {
+    #[inline]
+    pub fn edges(&mut self, before: Before, ticks: u32) -> Code {
+        let mut code = Code::Done;
+        // "REQ falls: automatic ACK is released."
+        if before.request && !self.sees(REQ) {
+            self.automatic_ack = false;
+        }
+        if !before.reset && self.sees_reset() {
+            self.bus_reset();
+        }
+        // "REQ rises and RST not seen".
+        if !before.request && self.sees(REQ) && !self.sees_reset() {
+            code = self.request();
+        }
+        self.watch_bus_free(ticks);
+        // "PHASECHG is set when 'connected and not matched' is true here and
+        // was false at the end of the last event."
+        if !before.mismatched && self.mismatched() {
+            self.raise1(PHASECHG);
+        }
+        code
+    }
+
+    /// "RST rises: SCSIRSTI; 340h bits 7-1, 343h, offset and SCSIEN become 0;
+    /// automatic ACK is released. FIFOs and counter stay."
+    fn bus_reset(&mut self) {
+        self.raise1(SCSIRSTI);
+        self.scsiseq &= SCSIRSTO;
+        self.scsisig = 0;
+        self.offset = 0;
+        self.sxfrctl0 &= !SCSIEN;
+        self.automatic_ack = false;
+    }
+
+    #[inline]
+    fn request(&mut self) -> Code {
+        self.raise1(REQINIT);
+        self.check_parity();
+        if self.matched() && self.path() && self.synchronous() {
+            self.synchronous_request()
+        } else {
+            Code::Done
+        }
+    }
+
+    /// "If connected, IO seen and ENSPCHK, and data with parity has an even
+    /// number of ones: SCSIPERR, and with ENAUTOATNP 343h bit 4."
+    #[inline]
+    fn check_parity(&mut self) {
+        let checked = self.connected() && self.sees(IO) && self.sxfrctl1 & ENSPCHK != 0;
+        // With IO seen the chip drives neither data nor parity.
+        if checked && self.others.parity != odd_parity(self.others.data) {
+            self.raise1(SCSIPERR);
+            if self.scsiseq & ENAUTOATNP != 0 {
+                self.scsisig |= ATN;
+            }
+        }
+    }
+
+    /// "with offset at or above the limit, or IO seen and the SCSI FIFO holding
+    /// 8, code 6, nothing stored, offset as before; else, inbound with offset 0
+    /// and the SCSI FIFO not empty sets SYNCERR, then offset goes up one and an
+    /// inbound byte is stored."
+    #[inline]
+    fn synchronous_request(&mut self) -> Code {
+        let inbound = self.sees(IO);
+        if self.offset >= self.limit() || (inbound && self.scsi_fifo.is_full()) {
+            return Code::BeyondLimit;
+        }
+        if inbound && self.offset == 0 && !self.scsi_fifo.is_empty() {
+            self.errors |= SYNCERR;
+        }
+        self.offset += 1;
+        if inbound {
+            let data = self.data_seen();
+            self.scsi_fifo.put(data);
+        }
+        Code::Done
+    }
+
+    /// "Quiet ticks: 0 if BSY or SEL is seen, else ticks add, stopping at 8. On
+    /// reaching 8: BUSFREE; 343h and offset 0; automatic ACK released."
+    #[inline]
+    fn watch_bus_free(&mut self, ticks: u32) {
+        if self.sees(BSY | SEL) {
+            self.quiet_ticks = 0;
+            return;
+        }
+        let was_free = self.quiet_ticks == 8;
+        self.quiet_ticks = (u32::from(self.quiet_ticks) + ticks).min(8) as u8;
+        if self.quiet_ticks == 8 && !was_free {
+            self.raise1(BUSFREE);
+            self.scsisig = 0;
+            self.offset = 0;
+            self.automatic_ack = false;
+        }
+    }
+}

@@ -1,0 +1,43 @@
+//! A plain model of the AIC-6360 by the exact rules of document 01,
+//! with document 001 (the data book) where document 01 is silent.
+//!
+//! One call of [`step`] is one event: record in, answer out.
+
+pub mod access;
+pub mod answer;
+pub mod chip;
+pub mod edges;
+pub mod event;
+pub mod fifo;
+pub mod hex;
+pub mod random;
+pub mod registers;
+pub mod settling;
+pub mod streams;
+
+pub use chip::Chip;
+
+use answer::{Code, Outcome};
+use event::decode;
+
+/// One event: the record's own effect (A), edges (B), settling (C) and the
+/// standing conditions (D), then the answer.
+#[inline]
+pub fn step(chip: &mut Chip, record: &[u8]) -> [u8; 16] {
+    // "record not 4 bytes or not well formed": code 1, state same.
+    let Some(event) = decode(record) else {
+        return chip.answer(Code::BadRecord, 0, &Outcome::default());
+    };
+    // Rises and falls speak against the end of the last event.
+    let before = chip.remember();
+    let value = match chip.own_effect(event) {
+        Ok(value) => value,
+        // "A refused access has ACKs and moves 0 and no sent bytes; the other
+        // fields show the unchanged state." It runs none of A to D.
+        Err(refusal) => return chip.answer(refusal.code, refusal.value, &Outcome::default()),
+    };
+    let code = chip.edges(before, event.ticks());
+    let outcome = chip.settle();
+    chip.standing_conditions();
+    chip.answer(code, value, &outcome)
+}
