@@ -4,3 +4,4 @@ pub mod Marked
 pub mod Ranges
 pub mod Rest
 pub mod Settling
+pub mod Still
