@@ -10,45 +10,45 @@ use lib.Bits.{or-lt}
 use lib.Pow.{areBytes}
 use lib.ListN.{length, take, drop, getD, set, replicate, length-append, length-take, length-drop, length-set, length-replicate}
 use borrow.Author.Tests.{ltb-true, ltb-false, leb-false}
-use Rattle.rules.specs.State.{State, Transfer, powerReset}
-use Rattle.rules.specs.Ranges.{Bytes, TransferFits, RegistersFit, StackFits, InRange}
-use Rattle.rules.specs.Records.{linesOf, payloadLimit, offsetLimit, eventOf, wellFormed, fieldsOf, payloadOf, decode}
-use Rattle.rules.specs.Events.{writes, reads, valueOf, ticksOf, linesAfter, offered, asked, portWrite}
-use Rattle.rules.specs.Counter.{counterSize, counted, counterWith}
-use Rattle.rules.specs.Stack.{stackByte, stackPlace, pointerAfter, stackRead, stackWritten, pointed}
-use Rattle.rules.specs.StepA.{clrstcnt, clrch, rstfifo, automaticAck, registersA, hostA, counterA, transferA, stackA, identityA, afterA}
-use Rattle.rules.specs.Registers.{scsirateOf, scsiidOf}
-use Rattle.rules.specs.Seen.{atnSeen, bsySeen, selSeen, ioSeen, ackDriven, ackSeen, normal, limit, driving, dataDriven, parityDriven, dataSeen}
-use Rattle.rules.specs.StepB.{rstRises, synchronousReq, beyondLimit, registersB, quietAfter, edges, transferB, applied, edgesOf, afterB}
-use Rattle.rules.specs.StepC.{Settling, conditions, canMove, move, canHandshake, storedBy, handshake, settle, turns, started, settledC}
-use Rattle.rules.specs.StepD.{finished, afterD}
-use Rattle.rules.specs.Interrupts.{phasemis, instat, irq}
-use Rattle.rules.specs.Map.{readAt}
-use Rattle.rules.specs.Reads.{scsisigi, scsibus, sstat0, sstat1, sstat2, sstat3, sstat4, dmastat, idBytes, readOf, readMapped, valueRead}
-use Rattle.rules.specs.Codes.{numberOf, absent, testValue, shut, noRoom, noBytes, check, first, accessCode, refusedValue, isDone}
-use Rattle.rules.specs.Answers.{Stepped, controlDriven, answerOf, answerBytes}
-use Rattle.rules.specs.Step.{refused, done, access, stepEvent, stepDecoded, step, answer, after}
-use Rattle.rules.specs.Numbers.{one, byteOf, padded}
+use Rattle.rules.specs.declared.registers.Scsirate.{Scsirate}
+use Rattle.rules.specs.declared.registers.Scsiid.{Scsiid}
+use Rattle.rules.specs.declared.registers.Registers.{Registers}
 use Rattle.rules.specs.declared.map.Register.{Register}
 use Rattle.rules.specs.declared.map.Mapped.{Mapped}
 use Rattle.rules.specs.declared.map.Mapped.the-variants.{Present, Missing}
-use Rattle.rules.specs.declared.codes.Code.{Code}
-use Rattle.rules.specs.declared.codes.Code.the-variants.{Done, Malformed, Absent, Shut, NoRoom, NoBytes, BeyondLimit, TestValue}
-use Rattle.rules.specs.declared.chip.Edges.{Edges}
-use Rattle.rules.specs.declared.chip.Conditions.{Conditions}
-use Rattle.rules.specs.declared.registers.Scsirate.{Scsirate}
-use Rattle.rules.specs.declared.registers.Scsiid.{Scsiid}
-use Rattle.rules.specs.declared.chip.Stack.{Stack}
 use Rattle.rules.specs.declared.map.Register.the-variants.{SCSISEQ, SXFRCTL0, SXFRCTL1, SCSISIGI, SCSISIGO, SCSIRATE, SELID, SCSIID, SCSIDAT, SCSIBUS, STCNT0, STCNT1, STCNT2, SSTAT0, CLRSINT0, SSTAT1, CLRSINT1, SSTAT2, SSTAT3, SCSITEST, SSTAT4, CLRSERR, SIMODE0, SIMODE1, DMACNTRL0, DMACNTRL1, DMASTAT, FIFOSTAT, DMADATA, BRSTCNTRL, REV, STACK, TEST, ID}
-use Rattle.rules.specs.declared.registers.Registers.{Registers}
 use Rattle.rules.specs.declared.records.Lines.{Lines}
 use Rattle.rules.specs.declared.records.Event.{Event}
 use Rattle.rules.specs.declared.records.Event.the-variants.{PowerReset, Write, Read, WordWrite, WordRead, Drive, Ticks}
 use Rattle.rules.specs.declared.records.Decoded.{Decoded}
 use Rattle.rules.specs.declared.records.Decoded.the-variants.{Well, Ill}
+use Rattle.rules.specs.declared.codes.Code.{Code}
+use Rattle.rules.specs.declared.codes.Code.the-variants.{Done, Malformed, Absent, Shut, NoRoom, NoBytes, BeyondLimit, TestValue}
+use Rattle.rules.specs.declared.chip.Edges.{Edges}
+use Rattle.rules.specs.declared.chip.Conditions.{Conditions}
+use Rattle.rules.specs.declared.chip.Stack.{Stack}
 use Rattle.rules.proofs.Logic.{never, left-true, right-true, cond-case}
-use Rattle.rules.proofs.Settling.{settle-keeps}
 use Rattle.rules.proofs.Rest.{move-outbound, move-inbound, handshake-inbound, Report, settling-reports}
+use Rattle.rules.proofs.Settling.{settle-keeps}
+use Rattle.rules.specs.Answers.{Stepped, controlDriven, answerOf, answerBytes}
+use Rattle.rules.specs.Codes.{numberOf, absent, testValue, shut, noRoom, noBytes, check, first, accessCode, refusedValue, isDone}
+use Rattle.rules.specs.Counter.{counterSize, counted, counterWith}
+use Rattle.rules.specs.Events.{writes, reads, valueOf, ticksOf, linesAfter, offered, asked, portWrite}
+use Rattle.rules.specs.Interrupts.{phasemis, instat, irq}
+use Rattle.rules.specs.Map.{readAt}
+use Rattle.rules.specs.Numbers.{one, byteOf, padded}
+use Rattle.rules.specs.Ranges.{Bytes, TransferFits, RegistersFit, StackFits, InRange}
+use Rattle.rules.specs.Reads.{scsisigi, scsibus, sstat0, sstat1, sstat2, sstat3, sstat4, dmastat, idBytes, readOf, readMapped, valueRead}
+use Rattle.rules.specs.Records.{linesOf, payloadLimit, offsetLimit, eventOf, wellFormed, fieldsOf, payloadOf, decode}
+use Rattle.rules.specs.Registers.{scsirateOf, scsiidOf}
+use Rattle.rules.specs.Seen.{atnSeen, bsySeen, selSeen, ioSeen, ackDriven, ackSeen, normal, limit, driving, dataDriven, parityDriven, dataSeen}
+use Rattle.rules.specs.Stack.{stackByte, stackPlace, pointerAfter, stackRead, stackWritten, pointed}
+use Rattle.rules.specs.State.{State, Transfer, powerReset}
+use Rattle.rules.specs.Step.{refused, done, access, stepEvent, stepDecoded, step, answer, after}
+use Rattle.rules.specs.StepA.{clrstcnt, clrch, rstfifo, automaticAck, registersA, hostA, counterA, transferA, stackA, identityA, afterA}
+use Rattle.rules.specs.StepB.{rstRises, synchronousReq, beyondLimit, registersB, quietAfter, edges, transferB, applied, edgesOf, afterB}
+use Rattle.rules.specs.StepC.{Settling, conditions, canMove, move, canHandshake, storedBy, handshake, settle, turns, started, settledC}
+use Rattle.rules.specs.StepD.{finished, afterD}
 
 -- bytes stay bytes in every list that the rules make of them
 pub bytes-append : (l k : List ℕ) → Bytes l → Bytes k → Bytes (l ++ k)
@@ -643,6 +643,21 @@ after-fits s (bytes ∷ more) i = after-fits ((step s bytes) .state) more (step-
 -- FROM POWER RESET, AFTER ANY LIST OF RECORDS, THE STATE IS IN RANGE
 pub always-in-range : (records : List (List ℕ)) → InRange (after powerReset records)
 always-in-range records = after-fits powerReset records power-reset-fits
+
+-- the bounds, in document 01's own numbers
+pub record Bounded (s : State) : Type 0 where
+  pub offset : s .transfer .offset ≤ 8
+  pub scsi : length (s .transfer .scsi) ≤ 8
+  pub host : length (s .transfer .host) ≤ 128
+  pub counter : s .transfer .counter < 16777216
+  pub pointer : s .stack .pointer < 32
+
+-- FROM POWER RESET, AFTER ANY LIST OF RECORDS: offset and SCSI FIFO at most 8, host FIFO at most 128, counter below
+-- 16,777,216, pointer below 32
+pub always-bounded : (records : List (List ℕ)) → Bounded (after powerReset records)
+always-bounded records =
+    let i = always-in-range records in
+    record { offset = i .transfer .offset; scsi = i .transfer .scsi; host = i .transfer .host; counter = i .transfer .counter; pointer = i .stack .pointer }
 
 -- an answer is sixteen bytes
 pub record AnswerFits (l : List ℕ) : Type 0 where

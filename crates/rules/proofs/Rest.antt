@@ -1,19 +1,19 @@
 -- Settling reaches rest: within 24 turns neither a move nor a handshake is possible, with at most 16 moves and 8 ACKs.
 use mathlib.Core.Path.{_≡_, refl, sym, _∙_}
 use mathlib.Core.Bool.{Bool, true, false, not, _&&_, _||_, cond}
-use mathlib.Core.List.{[]}
+use mathlib.Core.List.{[], _∷_, _++_}
 use Prim.Native.Nat.{ℕ, zero, suc, _+_, _*_, _-_, _<_, _≤_}
 use native.Mathlib.Omega.{arith}
 use native.Mathlib.Nat.{zero-add}
 use lib.Dec.{ltb}
-use lib.ListN.{length, length-append, length-take, length-drop}
+use lib.ListN.{length, take, drop, length-append, length-take, length-drop}
 use borrow.Author.Tests.{ltb-true, not-true}
-use Rattle.rules.specs.Numbers.{one}
-use Rattle.rules.specs.State.{State, Transfer}
-use Rattle.rules.specs.StepC.{Settling, canMove, move, canAsynchronous, canSynchronous, canHandshake, handshake, turn, settle, turns, started}
 use Rattle.rules.specs.declared.chip.Conditions.{Conditions}
 use Rattle.rules.proofs.Logic.{never, left-true, right-true}
 use Rattle.rules.proofs.Settling.{settle-keeps}
+use Rattle.rules.specs.Numbers.{one}
+use Rattle.rules.specs.State.{State, Transfer}
+use Rattle.rules.specs.StepC.{Settling, canMove, move, canAsynchronous, canSynchronous, canHandshake, handshake, turn, settle, turns, started}
 
 -- neither a move nor a handshake is possible
 pub record Resting (c : Conditions) (t : Transfer) : Type 0 where
@@ -214,94 +214,109 @@ measure-small c t a b = go (c .outbound) (c .synchronous) (t .ack) refl refl ref
 pub settling-rests : (c : Conditions) (s : Settling) → length (s .transfer .scsi) ≤ 8 → s .transfer .offset ≤ 8 → Resting c ((settle c turns s) .transfer)
 settling-rests c s a b = settle-reaches c turns s (measure-small c (s .transfer) a b)
 
--- what is counted while settling from n bytes in the SCSI FIFO, with a handshakes possible: each move brings one byte, each
--- ACK sends one outbound or stores at most one inbound
-pub record Counts (c : Conditions) (n a : ℕ) (s : Settling) : Type 0 where
-  pub scsi : length (s .transfer .scsi) ≤ 8
+-- the bytes that ACKs have stored: inbound, one for each ACK that is asynchronous; a synchronous one was stored at its REQ
+abbrev pub storedByAcks : Conditions → ℕ → ℕ
+storedByAcks c acks = cond (c .synchronous) 0 acks
+
+-- what is counted while settling, from h bytes in the host FIFO and n in the SCSI FIFO with a handshakes possible: a move takes
+-- one byte over, an ACK outbound sends one, an ACK inbound sends none
+pub record Counts (c : Conditions) (h n a : ℕ) (s : Settling) : Type 0 where
+  pub full : length (s .transfer .scsi) ≤ 8
   pub acks : s .acks + acksLeft c (s .transfer) ≡ a
-  pub moves : cond (c .outbound) (s .moves + n ≡ length (s .transfer .scsi) + s .acks) (s .moves + length (s .transfer .scsi) ≤ n + s .acks)
+  pub host : cond (c .outbound) (length (s .transfer .host) + s .moves ≡ h) (length (s .transfer .host) ≡ h + s .moves)
+  pub scsi : cond (c .outbound) (length (s .transfer .scsi) + s .acks ≡ n + s .moves) (length (s .transfer .scsi) + s .moves ≡ n + storedByAcks c (s .acks))
   pub sent : cond (c .outbound) (length (s .sent) ≡ s .acks) (s .sent ≡ [])
 
-module _ (c : Conditions) (n a : ℕ) (s : Settling) where
-  counts-move : canMove c (s .transfer) ≡ true → Counts c n a s → Counts c n a (move c s)
+module _ (c : Conditions) (h n a : ℕ) (s : Settling) where
+  counts-move : canMove c (s .transfer) ≡ true → Counts c h n a s → Counts c h n a (move c s)
   unfolding move
-  counts-move h i = go (c .outbound) refl
+  counts-move can i = go (c .outbound) refl
     where
-      go : (o : Bool) → c .outbound ≡ o → Counts c n a (move c s)
+      go : (o : Bool) → c .outbound ≡ o → Counts c h n a (move c s)
       go true o =
-          let e = move-outbound c (s .transfer) o h in
-          let m : s .moves + n ≡ length (s .transfer .scsi) + s .acks = rw o at (i .moves) in
+          let e = move-outbound c (s .transfer) o can in
+          let p : length (s .transfer .host) + s .moves ≡ h = rw o at (i .host) in
+          let m : length (s .transfer .scsi) + s .acks ≡ n + s .moves = rw o at (i .scsi) in
           record {
-            scsi = rw o (simp (length-append, length-take) (omega arith));
+            full = rw o (simp (length-append, length-take) (omega arith));
             acks = i .acks;
-            moves = rw o (simp (length-append, length-take) (omega arith));
+            host = rw o (simp length-drop (omega arith));
+            scsi = rw o (simp (length-append, length-take) (omega arith));
             sent = i .sent;
           }
       go false o =
-          let e = move-inbound c (s .transfer) o h in
-          let m : s .moves + length (s .transfer .scsi) ≤ n + s .acks = rw o at (i .moves) in
-          let x = i .scsi in
+          let e = move-inbound c (s .transfer) o can in
+          let p : length (s .transfer .host) ≡ h + s .moves = rw o at (i .host) in
+          let m : length (s .transfer .scsi) + s .moves ≡ n + storedByAcks c (s .acks) = rw o at (i .scsi) in
+          let x = i .full in
           record {
-            scsi = rw o (simp length-drop (omega arith));
+            full = rw o (simp length-drop (omega arith));
             acks = i .acks;
-            moves = rw o (simp length-drop (omega arith));
+            host = rw o (simp (length-append, length-take) (omega arith));
+            scsi = rw o (simp length-drop (omega arith));
             sent = i .sent;
           }
 
-  counts-handshake : canHandshake c (s .transfer) ≡ true → Counts c n a s → Counts c n a (handshake c s)
+  counts-handshake : canHandshake c (s .transfer) ≡ true → Counts c h n a s → Counts c h n a (handshake c s)
   unfolding handshake
-  counts-handshake h i = go (c .outbound) (c .synchronous) refl refl
+  counts-handshake can i =
+      record { full = full (c .outbound) (c .synchronous) refl refl; acks = acks (c .synchronous) refl; host = i .host; scsi = scsi (c .outbound) (c .synchronous) refl refl; sent = sent (c .outbound) refl }
     where
       x : length (s .transfer .scsi) ≤ 8
-      x = i .scsi
+      x = i .full
 
-      go : (o y : Bool) → c .outbound ≡ o → c .synchronous ≡ y → Counts c n a (handshake c s)
-      go true true o y =
-          let e = handshake-outbound c (s .transfer) o h in
-          let f = synchronous-offset c (s .transfer) y h in
-          let k : s .acks + s .transfer .offset ≡ a = rw y at (i .acks) in
-          let m : s .moves + n ≡ length (s .transfer .scsi) + s .acks = rw o at (i .moves) in
-          let l : length (s .sent) ≡ s .acks = rw o at (i .sent) in
-          record {
-            scsi = rw o (simp length-drop (omega (arith, x)));
-            acks = rw y (omega arith);
-            moves = rw o (simp length-drop (omega arith));
-            sent = rw o (simp (length-append, length-take) (omega arith));
-          }
-      go true false o y =
-          let e = handshake-outbound c (s .transfer) o h in
-          let k : s .acks + 1 ≡ a = rw (y, asynchronous-ack c (s .transfer) y h) at (i .acks) in
-          let m : s .moves + n ≡ length (s .transfer .scsi) + s .acks = rw o at (i .moves) in
-          let l : length (s .sent) ≡ s .acks = rw o at (i .sent) in
-          record {
-            scsi = rw o (simp length-drop (omega (arith, x)));
-            acks = rw y (omega arith);
-            moves = rw o (simp length-drop (omega arith));
-            sent = rw o (simp (length-append, length-take) (omega arith));
-          }
-      go false true o y =
-          let f = synchronous-offset c (s .transfer) y h in
-          let k : s .acks + s .transfer .offset ≡ a = rw y at (i .acks) in
-          let m : s .moves + length (s .transfer .scsi) ≤ n + s .acks = rw o at (i .moves) in
-          record {
-            scsi = rw (o, y) (simp length-append (omega (arith, x)));
-            acks = rw y (omega arith);
-            moves = rw (o, y) (simp length-append (omega arith));
-            sent = rw o (rw o at (i .sent));
-          }
-      go false false o y =
-          let e = handshake-inbound c (s .transfer) o y h in
-          let k : s .acks + 1 ≡ a = rw (y, asynchronous-ack c (s .transfer) y h) at (i .acks) in
-          let m : s .moves + length (s .transfer .scsi) ≤ n + s .acks = rw o at (i .moves) in
-          record {
-            scsi = rw (o, y) (simp length-append (omega arith));
-            acks = rw y (omega arith);
-            moves = rw (o, y) (simp length-append (omega arith));
-            sent = rw o (rw o at (i .sent));
-          }
+      full : (o y : Bool) → c .outbound ≡ o → c .synchronous ≡ y → length (cond o (drop 1 (s .transfer .scsi)) (s .transfer .scsi ++ cond y [] (c .byte ∷ []))) ≤ 8
+      full true y o e = simp length-drop (omega (arith, x))
+      full false true o e = simp length-append (omega (arith, x))
+      full false false o e = simp length-append (omega (arith, handshake-inbound c (s .transfer) o e can))
 
-counts-settle : (c : Conditions) (n a k : ℕ) (s : Settling) → Counts c n a s → Counts c n a (settle c k s)
-counts-settle c n a = settle-keeps (Counts c n a) c (counts-move c n a) (counts-handshake c n a)
+      acks : (y : Bool) → c .synchronous ≡ y → s .acks + 1 + cond y (cond y (s .transfer .offset - 1) (s .transfer .offset)) (one (not (cond y (s .transfer .ack) true))) ≡ a
+      acks true y =
+          let k : s .acks + s .transfer .offset ≡ a = rw y at (i .acks) in
+          omega (arith, synchronous-offset c (s .transfer) y can)
+      acks false y =
+          let k : s .acks + 1 ≡ a = rw (y, asynchronous-ack c (s .transfer) y can) at (i .acks) in
+          omega arith
+
+      scsi : (o y : Bool) → c .outbound ≡ o → c .synchronous ≡ y → cond o (length (cond o (drop 1 (s .transfer .scsi)) (s .transfer .scsi ++ cond y [] (c .byte ∷ []))) + (s .acks + 1) ≡ n + s .moves) (length (cond o (drop 1 (s .transfer .scsi)) (s .transfer .scsi ++ cond y [] (c .byte ∷ []))) + s .moves ≡ n + cond y 0 (s .acks + 1))
+      scsi true y o e =
+          let m : length (s .transfer .scsi) + s .acks ≡ n + s .moves = rw o at (i .scsi) in
+          simp length-drop (omega (arith, handshake-outbound c (s .transfer) o can))
+      scsi false true o e =
+          let m : length (s .transfer .scsi) + s .moves ≡ n + 0 = rw (o, e) at (i .scsi) in
+          simp length-append (omega arith)
+      scsi false false o e =
+          let m : length (s .transfer .scsi) + s .moves ≡ n + s .acks = rw (o, e) at (i .scsi) in
+          simp length-append (omega arith)
+
+      sent : (o : Bool) → c .outbound ≡ o → cond o (length (cond o (s .sent ++ take 1 (s .transfer .scsi)) (s .sent)) ≡ s .acks + 1) (cond o (s .sent ++ take 1 (s .transfer .scsi)) (s .sent) ≡ [])
+      sent true o =
+          let l : length (s .sent) ≡ s .acks = rw o at (i .sent) in
+          simp (length-append, length-take) (omega (arith, handshake-outbound c (s .transfer) o can))
+      sent false o = rw o at (i .sent)
+
+counts-settle : (c : Conditions) (h n a k : ℕ) (s : Settling) → Counts c h n a s → Counts c h n a (settle c k s)
+counts-settle c h n a = settle-keeps (Counts c h n a) c (counts-move c h n a) (counts-handshake c h n a)
+
+-- SETTLING LOSES AND MAKES NO BYTE: the FIFOs' counts follow from the moves and ACKs reported
+pub settling-counts : (c : Conditions) (k : ℕ) (s : State) → length (s .transfer .scsi) ≤ 8 → Counts c (length (s .transfer .host)) (length (s .transfer .scsi)) (acksLeft c (s .transfer)) (settle c k (started s))
+unfolding started
+settling-counts c k s x =
+    counts-settle c (length (s .transfer .host)) (length (s .transfer .scsi)) (acksLeft c (s .transfer)) k (started s)
+    (record { full = x; acks = zero-add _; host = host (c .outbound); scsi = scsi (c .outbound) (c .synchronous); sent = sent (c .outbound) })
+  where
+    host : (o : Bool) → cond o (length (s .transfer .host) + 0 ≡ length (s .transfer .host)) (length (s .transfer .host) ≡ length (s .transfer .host) + 0)
+    host true = omega arith
+    host false = omega arith
+
+    scsi : (o y : Bool) → cond o (length (s .transfer .scsi) + 0 ≡ length (s .transfer .scsi) + 0) (length (s .transfer .scsi) + 0 ≡ length (s .transfer .scsi) + cond y 0 0)
+    scsi true y = refl
+    scsi false true = refl
+    scsi false false = refl
+
+    sent : (o : Bool) → cond o (length ((started s) .sent) ≡ 0) ((started s) .sent ≡ [])
+    sent true = refl
+    sent false = refl
 
 -- what an event reports: "at most 16; ACKs at most 8"; a byte sent for each ACK outbound, and none inbound
 pub record Report (c : Conditions) (s : Settling) : Type 0 where
@@ -311,30 +326,40 @@ pub record Report (c : Conditions) (s : Settling) : Type 0 where
   pub sentOutbound : c .outbound ≡ true → length (s .sent) ≡ s .acks
   pub sentInbound : c .outbound ≡ false → s .sent ≡ []
 
-report : (c : Conditions) (n a : ℕ) (s : Settling) → n ≤ 8 → a ≤ 8 → Counts c n a s → Report c s
-report c n a s hn ha i = go (c .outbound) refl
+report : (c : Conditions) (h n a : ℕ) (s : Settling) → n ≤ 8 → a ≤ 8 → Counts c h n a s → Report c s
+report c h n a s hn ha i = go (c .outbound) (c .synchronous) refl refl
   where
-    go : (o : Bool) → c .outbound ≡ o → Report c s
-    go true o =
-        let m : s .moves + n ≡ length (s .transfer .scsi) + s .acks = rw o at (i .moves) in
+    k : s .acks ≤ 8
+    k = omega (arith, i .acks)
+
+    go : (o y : Bool) → c .outbound ≡ o → c .synchronous ≡ y → Report c s
+    go true y o e =
+        let m : length (s .transfer .scsi) + s .acks ≡ n + s .moves = rw o at (i .scsi) in
         let l : length (s .sent) ≡ s .acks = rw o at (i .sent) in
         record {
-          moves = omega (arith, i .acks, i .scsi);
-          acks = omega (arith, i .acks);
-          sent = omega (arith, i .acks);
-          sentOutbound = λ e. l;
-          sentInbound = λ e. absurd (never (sym e ∙ o));
+          moves = omega (arith, k, i .full);
+          acks = k;
+          sent = omega (arith, k);
+          sentOutbound = λ q. l;
+          sentInbound = λ q. absurd (never (sym q ∙ o));
         }
-    go false o =
-        let m : s .moves + length (s .transfer .scsi) ≤ n + s .acks = rw o at (i .moves) in
+    go false y o e =
         let l : s .sent ≡ [] = rw o at (i .sent) in
         record {
-          moves = omega (arith, i .acks);
-          acks = omega (arith, i .acks);
+          moves = moves y e;
+          acks = k;
           sent = rw l (omega arith);
-          sentOutbound = λ e. absurd (never (sym o ∙ e));
-          sentInbound = λ e. l;
+          sentOutbound = λ q. absurd (never (sym o ∙ q));
+          sentInbound = λ q. l;
         }
+      where
+        moves : (y : Bool) → c .synchronous ≡ y → s .moves ≤ 16
+        moves true e =
+            let m : length (s .transfer .scsi) + s .moves ≡ n + 0 = rw (o, e) at (i .scsi) in
+            omega arith
+        moves false e =
+            let m : length (s .transfer .scsi) + s .moves ≡ n + s .acks = rw (o, e) at (i .scsi) in
+            omega (arith, k)
 
 acks-left-small : (c : Conditions) (t : Transfer) → t .offset ≤ 8 → acksLeft c t ≤ 8
 acks-left-small c t h = go (c .synchronous) (t .ack)
@@ -345,17 +370,7 @@ acks-left-small c t h = go (c .synchronous) (t .ack)
     go false false = omega arith
 
 -- SETTLING REPORTS AT MOST 16 MOVES AND 8 ACKS, from a start where none are made
-pub settling-reports : (c : Conditions) (n : ℕ) (s : State) → length (s .transfer .scsi) ≤ 8 → s .transfer .offset ≤ 8 → Report c (settle c n (started s))
-unfolding started
-settling-reports c n s a b =
-    report c (length (s .transfer .scsi)) (acksLeft c (s .transfer)) (settle c n (started s)) a (acks-left-small c (s .transfer) b)
-    (counts-settle c (length (s .transfer .scsi)) (acksLeft c (s .transfer)) n (started s)
-    (record { scsi = a; acks = zero-add _; moves = moved (c .outbound); sent = none (c .outbound) }))
-  where
-    moved : (o : Bool) → cond o (0 + length (s .transfer .scsi) ≡ length (s .transfer .scsi) + 0) (0 + length (s .transfer .scsi) ≤ length (s .transfer .scsi) + 0)
-    moved true = omega arith
-    moved false = omega arith
-
-    none : (o : Bool) → cond o (length ((started s) .sent) ≡ 0) ((started s) .sent ≡ [])
-    none true = refl
-    none false = refl
+pub settling-reports : (c : Conditions) (k : ℕ) (s : State) → length (s .transfer .scsi) ≤ 8 → s .transfer .offset ≤ 8 → Report c (settle c k (started s))
+settling-reports c k s x y =
+    report c (length (s .transfer .host)) (length (s .transfer .scsi)) (acksLeft c (s .transfer)) (settle c k (started s)) x (acks-left-small c (s .transfer) y)
+    (settling-counts c k s x)

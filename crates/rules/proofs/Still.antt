@@ -7,20 +7,7 @@ use native.Mathlib.Omega.{arith}
 use lib.Dec.{ltb, leb}
 use lib.ListN.{length}
 use borrow.Author.Tests.{le-ltb}
-use Rattle.rules.specs.State.{State, powerReset}
-use Rattle.rules.specs.Ranges.{InRange}
-use Rattle.rules.specs.Seen.{ioSeen, reqSeen, rstSeen, bsySeen, selSeen, ackSeen, connected, mismatched, parityEven}
-use Rattle.rules.specs.Events.{writes, reads, valueOf, ticksOf, linesAfter, offered, asked, portWrite, portRead}
-use Rattle.rules.specs.Interrupts.{latched}
-use Rattle.rules.specs.Records.{wellFormed, fieldsOf, decode}
-use Rattle.rules.specs.Reads.{valueRead}
-use Rattle.rules.specs.Codes.{absent, testValue, shut, noRoom, noBytes, accessCode, refusedValue, isDone}
-use Rattle.rules.specs.Answers.{Stepped}
-use Rattle.rules.specs.Step.{refused, done, access, stepEvent, stepDecoded, step, after}
-use Rattle.rules.specs.StepA.{clears, clearsLatch, clearsError, clrstcnt, clrch, rstfifo, latchAccess, automaticAck, registersA, hostA, counterA, transferA, statusA, latchesA, stackA, identityA, afterA}
-use Rattle.rules.specs.StepB.{reqFalls, rstRises, reqRises, parityBad, synchronousReq, registersB, quietAfter, busFree, edges, transferB, phaseChanges, statusB, applied, edgesOf, afterB}
-use Rattle.rules.specs.StepC.{conditions, canMove, canHandshake, canSynchronous, canAsynchronous, settle, turns, started, settledC}
-use Rattle.rules.specs.StepD.{fifoConflict, pioReady, statusRaised, statusD, latchesD, finished, afterD}
+use Rattle.rules.specs.declared.registers.Registers.{Registers}
 use Rattle.rules.specs.declared.records.Event.{Event}
 use Rattle.rules.specs.declared.records.Event.the-variants.{PowerReset, Write, Read, WordWrite, WordRead, Drive, Ticks}
 use Rattle.rules.specs.declared.records.Decoded.{Decoded}
@@ -29,11 +16,24 @@ use Rattle.rules.specs.declared.codes.Code.the-variants.{Done, BeyondLim
 use Rattle.rules.specs.declared.chip.Status.{Status}
 use Rattle.rules.specs.declared.chip.Latches.{Latches}
 use Rattle.rules.specs.declared.chip.Edges.{Edges}
-use Rattle.rules.specs.declared.registers.Registers.{Registers}
 use Rattle.rules.proofs.Computes.{computes}
 use Rattle.rules.proofs.Logic.{never, cond-case}
 use Rattle.rules.proofs.Ranges.{EventFits, DecodedFits, decode-fits, after-b-fits, power-reset-fits, step-fits, always-in-range}
 use Rattle.rules.proofs.Rest.{Resting, settle-rests, settling-rests}
+use Rattle.rules.specs.Answers.{Stepped}
+use Rattle.rules.specs.Codes.{absent, testValue, shut, noRoom, noBytes, accessCode, refusedValue, isDone}
+use Rattle.rules.specs.Events.{writes, reads, valueOf, ticksOf, linesAfter, offered, asked, portWrite, portRead}
+use Rattle.rules.specs.Interrupts.{latched}
+use Rattle.rules.specs.Ranges.{InRange}
+use Rattle.rules.specs.Reads.{valueRead}
+use Rattle.rules.specs.Records.{wellFormed, fieldsOf, decode}
+use Rattle.rules.specs.Seen.{ioSeen, reqSeen, rstSeen, bsySeen, selSeen, ackSeen, connected, mismatched, parityEven}
+use Rattle.rules.specs.State.{State, powerReset}
+use Rattle.rules.specs.Step.{refused, done, access, stepEvent, stepDecoded, step, after}
+use Rattle.rules.specs.StepA.{clears, clearsLatch, clearsError, clrstcnt, clrch, rstfifo, latchAccess, automaticAck, registersA, hostA, counterA, transferA, statusA, latchesA, stackA, identityA, afterA}
+use Rattle.rules.specs.StepB.{reqFalls, rstRises, reqRises, parityBad, synchronousReq, registersB, quietAfter, busFree, edges, transferB, phaseChanges, statusB, applied, edgesOf, afterB}
+use Rattle.rules.specs.StepC.{conditions, canMove, canHandshake, canSynchronous, canAsynchronous, settle, turns, started, settledC}
+use Rattle.rules.specs.StepD.{fifoConflict, pioReady, statusRaised, statusD, latchesD, finished, afterD}
 
 -- what holds at the end of every event, and lets 0 ticks change nothing
 pub record AtRest (s : State) : Type 0 where
