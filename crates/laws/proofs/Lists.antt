@@ -5,8 +5,8 @@ use mathlib.Core.List.{List, [], _∷_, _++_, append-assoc}
 use native.Mathlib.Omega.{arith}
 use native.Mathlib.Numerals.{add-one}
 use native.Mathlib.Decide.{decLe}
-use lib.ListN.{length, take, drop, set, getD, replicate, length-append, length-take, length-drop, length-replicate}
-use lib.Seq.{set-append-seam, take-append-seam, take-suc, length-take-le, getD-drop, take-all, take-add, drop-at, getD-take}
+use lib.ListN.{length, take, drop, set, getD, replicate, length-append, length-take, length-drop, length-replicate, drop-of-length-le, List·getD-eq-default}
+use lib.Seq.{set-append-seam, take-append-seam, take-suc, length-take-le, getD-drop, take-all, take-add, drop-at}
 use Rattle.rules.specs.Numbers.{padded}
 
 -- the places that are left are one and those after it
@@ -57,9 +57,72 @@ take-clamped m k n l e p = go (decLe k m)
         ap (λ (j : ℕ). take j l) z
     go (no h) = take-all n l (omega arith) ∙ sym (take-all k l (omega arith))
 
--- the first of what a count shows, at no count and at some
-pub first-none : (n : ℕ) (l : List ℕ) → n ≡ 0 → 0 ≡ getD (take n l) 0 0
-first-none n l e = rw e
+-- past what a count shows
+pub shown-none : (n j : ℕ) (l : List ℕ) → n ≤ j → 0 ≡ getD (take n l) j 0
+shown-none n j l h =
+    let e : length (take n l) ≡ min n (length l) = length-take n l in
+    let k : length (take n l) ≤ j = omega arith in
+    sym (List·getD-eq-default (take n l) 0 k)
 
-pub first-some : (n : ℕ) (l : List ℕ) → (n ≡ 0 → ⊥) → getD l 0 0 ≡ getD (take n l) 0 0
-first-some n l h = sym (getD-take n l 0 0 (omega arith))
+-- a turn of a loop that copies s behind l, of which m are there
+pub join-copy : (n : ℕ) (l s : List ℕ) (m i : ℕ) (out : List ℕ) → m ≡ length l → out ≡ padded n (l ++ take i s) → m + i < n → i < length s → set out (m + i) (getD s i 0) ≡ padded n (l ++ take (i + 1) s)
+join-copy n l s m i out q e h k =
+    let t : length (take i s) ≡ i = length-take-le i s (omega arith) in
+    let a : length (l ++ take i s) ≡ m + i = simp length-append (omega arith) in
+    let p : set (padded n (l ++ take i s)) (length (l ++ take i s)) (getD s i 0) ≡ padded n ((l ++ take i s) ++ (getD s i 0 ∷ [])) = padded-push n (l ++ take i s) (getD s i 0) (omega arith) in
+    rw (e, add-one, take-suc s i 0, ← append-assoc) (rw a at p)
+
+-- bytes with a count c, in their one form: what the count shows, then zeros
+module _ (n c : ℕ) (bs : List ℕ) (b : ℕ) (e : bs ≡ padded n (take c bs)) (q : c ≡ length (take c bs)) where
+  -- a store at the count
+  pub push-at : c < n → set bs c b ≡ padded n (take c bs ++ (b ∷ []))
+  push-at h =
+      let p : set (padded n (take c bs)) (length (take c bs)) b ≡ padded n (take c bs ++ (b ∷ [])) = padded-push n (take c bs) b (omega arith) in
+      cc
+
+-- bytes with any count c, of which m can be there
+module _ (n c m : ℕ) (bs : List ℕ) (e : length bs ≡ n) (p : m ≡ min c n) where
+  shown : length (take c bs) ≡ m
+  shown = simp length-take (omega arith)
+
+  -- those after the k oldest stand in the middle
+  pub dropped : (k : ℕ) → k ≤ m → take (m - k) (drop k bs) ≡ drop k (take c bs)
+  dropped k h = sym (ap (λ (l : List ℕ). drop k l) (sym (take-clamped n c m bs e p)) ∙ drop-take k m bs h (omega arith))
+
+  pub length-dropped : (k : ℕ) → m - k ≡ length (drop k (take c bs))
+  length-dropped k = sym (length-drop k (take c bs) ∙ ap (λ (j : ℕ). j - k) shown)
+
+  pub dropped-all : (k : ℕ) → m < k → [] ≡ drop k (take c bs)
+  dropped-all k h =
+      let z : length (take c bs) ≤ k = omega (arith, shown) in
+      sym (drop-of-length-le (take c bs) z)
+
+-- a type whose values keep bytes with their count, at most n, and the value of a list
+module _ (F : Type 0) (n : ℕ) (bytes : F → List ℕ) (count : F → ℕ) (of : List ℕ → F) (at-bytes : (l : List ℕ) → bytes (of l) ≡ padded n l) (at-count : (l : List ℕ) → count (of l) ≡ length l) where
+  pub view-of : (f : F) (l : List ℕ) → f ≡ of l → take (count f) (bytes f) ≡ l
+  view-of f l e = rw (e, at-bytes l, at-count l) (padded-take n l)
+
+  pub tidy-of : (f : F) (l : List ℕ) → f ≡ of l → f ≡ of (take (count f) (bytes f))
+  tidy-of f l e = e ∙ ap of (sym (view-of f l e))
+
+  pub count-of : (f : F) (l : List ℕ) → f ≡ of l → count f ≡ length l
+  count-of f l e = ap count e ∙ at-count l
+
+  pub bytes-of : (f : F) (l : List ℕ) → f ≡ of l → bytes f ≡ padded n l
+  bytes-of f l e = ap bytes e ∙ at-bytes l
+
+-- n elements from a place on, one by one
+abbrev pub elements : List ℕ → ℕ → ℕ → List ℕ
+elements l i zero = []
+elements l i (suc n) = getD l i 0 ∷ elements l (suc i) n
+
+elements-tail : (x : ℕ) (l : List ℕ) (i n : ℕ) → elements (x ∷ l) (suc i) n ≡ elements l i n
+elements-tail x l i zero = refl
+elements-tail x l i (suc n) = ap (λ (r : List ℕ). getD l i 0 ∷ r) (elements-tail x l (suc i) n)
+
+-- all of them are the list
+pub elements-all : (n : ℕ) (l : List ℕ) → length l ≡ n → elements l 0 n ≡ l
+elements-all zero [] e = refl
+elements-all zero (x ∷ l) e = absurd (omega arith)
+elements-all (suc n) [] e = absurd (omega arith)
+elements-all (suc n) (x ∷ l) e = ap (λ (r : List ℕ). x ∷ r) (elements-tail x l 0 n ∙ elements-all n l (omega arith))

@@ -2,7 +2,7 @@
 use mathlib.Core.Path.{_≡_, sym, subst}
 use mathlib.Core.Bool.{Bool, true, false}
 use mathlib.Core.Logic.{⊎-elim}
-use Prim.Native.Nat.{ℕ, zero, suc, _+_, _≤_, _<_}
+use Prim.Native.Nat.{ℕ, zero, suc, _+_, _-_, _≤_, _<_}
 use native.Mathlib.Nat.{eq-or-lt-of-le}
 use native.Mathlib.Omega.{arith}
 use lib.Dec.{T}
@@ -60,3 +60,18 @@ none-below x (suc n) = none-below x n × (x ≡ n → ⊥)
 pub climb : (x n : ℕ) → none-below x n → n ≤ x
 climb x zero r = omega arith
 climb x (suc n) r = omega (arith, climb x n (r .0), r .1)
+
+-- and what holds at every n-th successor holds there
+abbrev pub up : ℕ → ℕ → ℕ
+up zero m = m
+up (suc n) m = suc (up n m)
+
+up-is : (n m : ℕ) → up n m ≡ n + m
+up-is zero m = omega arith
+up-is (suc n) m = omega (arith, up-is n m)
+
+pub in-rest : (P : ℕ → Type 0) (x n : ℕ) → none-below x n → ((m : ℕ) → P (up n m)) → P x
+in-rest P x n r f =
+    let h : n ≤ x = climb x n r in
+    let e : up n (x - n) ≡ x = omega (arith, up-is n (x - n)) in
+    subst P e (f (x - n))

@@ -5,3 +5,8 @@ pub mod Ranges
 pub mod Rest
 pub mod Settling
 pub mod Still
+pub mod Refusals
+pub mod Beliefs
+pub mod Effects
+pub mod Witnesses
+pub mod Packing

@@ -3,13 +3,31 @@
 use mathlib.Core.Path.{_≡_, refl, sym, _∙_}
 use mathlib.Core.Bool.{Bool, true, false, not, _&&_, _||_, cond}
 use mathlib.Core.List.{List, [], _∷_, _++_}
-use Prim.Native.Nat.{ℕ, zero, suc, _+_, _-_, _/_, _%_, _<_, _≤_, min}
+use Prim.Native.Nat.{ℕ, zero, suc, _+_, _-_, _/_, _%_, _<_, _≤_}
 use native.Mathlib.Omega.{arith}
 use lib.Dec.{ltb, leb, eqb}
 use lib.Bits.{or-lt}
 use lib.Pow.{areBytes}
 use lib.ListN.{length, take, drop, getD, set, replicate, length-append, length-take, length-drop, length-set, length-replicate}
 use borrow.Author.Tests.{ltb-true, ltb-false, leb-false}
+use Rattle.rules.specs.Numbers.{one, byteOf, padded}
+use Rattle.rules.specs.State.{State, Transfer, powerReset}
+use Rattle.rules.specs.Seen.{atnSeen, bsySeen, selSeen, ioSeen, ackDriven, ackSeen, normal, limit, driving, dataDriven, parityDriven, dataSeen}
+use Rattle.rules.specs.Map.{readAt}
+use Rattle.rules.specs.Records.{linesOf, payloadLimit, offsetLimit, eventOf, wellFormed, fieldsOf, payloadOf, decode}
+use Rattle.rules.specs.Events.{writes, reads, valueOf, ticksOf, linesAfter, offered, asked, portWrite}
+use Rattle.rules.specs.Counter.{counterSize, counted, counterWith}
+use Rattle.rules.specs.Stack.{stackByte, stackPlace, pointerAfter, stackRead, stackWritten, pointed}
+use Rattle.rules.specs.Interrupts.{phasemis, instat, irq}
+use Rattle.rules.specs.Reads.{scsisigi, scsibus, sstat0, sstat1, sstat2, sstat3, sstat4, dmastat, idBytes, readOf, readMapped, valueRead}
+use Rattle.rules.specs.Codes.{noRoom, accessCode, refusedValue, isDone}
+use Rattle.rules.specs.StepA.{clrstcnt, clrch, rstfifo, automaticAck, registersA, hostA, counterA, transferA, stackA, identityA, afterA}
+use Rattle.rules.specs.StepB.{rstRises, synchronousReq, beyondLimit, registersB, quietAfter, edges, transferB, applied, edgesOf, afterB}
+use Rattle.rules.specs.StepC.{Settling, conditions, canMove, move, canHandshake, storedBy, handshake, settle, turns, started, settledC}
+use Rattle.rules.specs.StepD.{finished, afterD}
+use Rattle.rules.specs.Answers.{Stepped, controlDriven, answerOf, answerBytes}
+use Rattle.rules.specs.Step.{refused, done, access, stepEvent, stepDecoded, step, answer, after}
+use Rattle.rules.specs.Ranges.{TransferFits, RegistersFit, StackFits, InRange, Bytes, TransferBytes, RegistersBytes, InBytes}
 use Rattle.rules.specs.declared.registers.Scsirate.{Scsirate}
 use Rattle.rules.specs.declared.registers.Scsiid.{Scsiid}
 use Rattle.rules.specs.declared.registers.Registers.{Registers}
@@ -28,27 +46,9 @@ use Rattle.rules.specs.declared.chip.Edges.{Edges}
 use Rattle.rules.specs.declared.chip.Conditions.{Conditions}
 use Rattle.rules.specs.declared.chip.Stack.{Stack}
 use Rattle.rules.proofs.Logic.{never, left-true, right-true, cond-case}
-use Rattle.rules.proofs.Rest.{move-outbound, move-inbound, handshake-inbound, Report, settling-reports}
+use Rattle.rules.proofs.Refusals.{eight-codes, done-passed}
+use Rattle.rules.proofs.Rest.{move-inbound, move-full, handshake-full, Report, settling-reports}
 use Rattle.rules.proofs.Settling.{settle-keeps}
-use Rattle.rules.specs.Answers.{Stepped, controlDriven, answerOf, answerBytes}
-use Rattle.rules.specs.Codes.{numberOf, absent, testValue, shut, noRoom, noBytes, check, first, accessCode, refusedValue, isDone}
-use Rattle.rules.specs.Counter.{counterSize, counted, counterWith}
-use Rattle.rules.specs.Events.{writes, reads, valueOf, ticksOf, linesAfter, offered, asked, portWrite}
-use Rattle.rules.specs.Interrupts.{phasemis, instat, irq}
-use Rattle.rules.specs.Map.{readAt}
-use Rattle.rules.specs.Numbers.{one, byteOf, padded}
-use Rattle.rules.specs.Ranges.{Bytes, TransferFits, RegistersFit, StackFits, InRange}
-use Rattle.rules.specs.Reads.{scsisigi, scsibus, sstat0, sstat1, sstat2, sstat3, sstat4, dmastat, idBytes, readOf, readMapped, valueRead}
-use Rattle.rules.specs.Records.{linesOf, payloadLimit, offsetLimit, eventOf, wellFormed, fieldsOf, payloadOf, decode}
-use Rattle.rules.specs.Registers.{scsirateOf, scsiidOf}
-use Rattle.rules.specs.Seen.{atnSeen, bsySeen, selSeen, ioSeen, ackDriven, ackSeen, normal, limit, driving, dataDriven, parityDriven, dataSeen}
-use Rattle.rules.specs.Stack.{stackByte, stackPlace, pointerAfter, stackRead, stackWritten, pointed}
-use Rattle.rules.specs.State.{State, Transfer, powerReset}
-use Rattle.rules.specs.Step.{refused, done, access, stepEvent, stepDecoded, step, answer, after}
-use Rattle.rules.specs.StepA.{clrstcnt, clrch, rstfifo, automaticAck, registersA, hostA, counterA, transferA, stackA, identityA, afterA}
-use Rattle.rules.specs.StepB.{rstRises, synchronousReq, beyondLimit, registersB, quietAfter, edges, transferB, applied, edgesOf, afterB}
-use Rattle.rules.specs.StepC.{Settling, conditions, canMove, move, canHandshake, storedBy, handshake, settle, turns, started, settledC}
-use Rattle.rules.specs.StepD.{finished, afterD}
 
 -- bytes stay bytes in every list that the rules make of them
 pub bytes-append : (l k : List ℕ) → Bytes l → Bytes k → Bytes (l ++ k)
@@ -161,7 +161,7 @@ lines-fit (Ticks n) l f h = h
 offered-fits : (e : Event) → EventFits e → Bytes (offered e)
 unfolding offered
 offered-fits PowerReset f = tt
-offered-fits (Write offset value) f = cond-case Bytes (eqb offset 0x16) (value ∷ []) [] (λ h. (f .1, tt)) (λ h. tt)
+offered-fits (Write offset value) f = cond-case Bytes (eqb offset 0x16) _ _ (λ h. (f .1, tt)) (λ h. tt)
 offered-fits (Read offset) f = tt
 offered-fits (WordWrite word) f = (omega arith, (omega arith, tt))
 offered-fits WordRead f = tt
@@ -169,37 +169,37 @@ offered-fits (Drive lines) f = tt
 offered-fits (Ticks n) f = tt
 
 -- A, by component
-registers-a : (r : Registers) (e : Event) → EventFits e → RegistersFit r → RegistersFit (registersA r e)
+registers-a : (r : Registers) (e : Event) → RegistersFit r → RegistersFit (registersA r e)
 unfolding registersA
-registers-a r e f i =
+registers-a r e i =
+    record {
+      sxfr = cond-case (λ (x : Scsirate). x .sxfr < 8) (writes e SCSIRATE) _ _ (λ h. omega arith) (λ h. i .sxfr);
+      sofs = cond-case (λ (x : Scsirate). x .sofs < 16) (writes e SCSIRATE) _ _ (λ h. omega arith) (λ h. i .sofs);
+      oid = cond-case (λ (x : Scsiid). x .oid < 8) (writes e SCSIID) _ _ (λ h. omega arith) (λ h. i .oid);
+      tid = cond-case (λ (x : Scsiid). x .tid < 8) (writes e SCSIID) _ _ (λ h. omega arith) (λ h. i .tid);
+    }
+
+registers-bytes-a : (r : Registers) (e : Event) → EventFits e → RegistersBytes r → RegistersBytes (registersA r e)
+unfolding registersA
+registers-bytes-a r e f i =
     let v = value-of-fits e f in
     record {
-      sxfr = cond-case (λ (x : Scsirate). x .sxfr < 8) (writes e SCSIRATE) (scsirateOf (valueOf e)) (r .scsirate) (λ h. omega arith) (λ h. i .sxfr);
-      sofs = cond-case (λ (x : Scsirate). x .sofs < 16) (writes e SCSIRATE) (scsirateOf (valueOf e)) (r .scsirate) (λ h. omega arith) (λ h. i .sofs);
-      oid = cond-case (λ (x : Scsiid). x .oid < 8) (writes e SCSIID) (scsiidOf (valueOf e)) (r .scsiid) (λ h. omega arith) (λ h. i .oid);
-      tid = cond-case (λ (x : Scsiid). x .tid < 8) (writes e SCSIID) (scsiidOf (valueOf e)) (r .scsiid) (λ h. omega arith) (λ h. i .tid);
-      scsidat = cond-case (λ n. n < 256) (writes e SCSIDAT) (valueOf e) (r .scsidat) (λ h. v) (λ h. i .scsidat);
-      brstcntrl = cond-case (λ n. n < 256) (writes e BRSTCNTRL) (valueOf e) (r .brstcntrl) (λ h. v) (λ h. i .brstcntrl);
+      scsidat = cond-case (λ n. n < 256) (writes e SCSIDAT) _ _ (λ h. v) (λ h. i .scsidat);
+      brstcntrl = cond-case (λ n. n < 256) (writes e BRSTCNTRL) _ _ (λ h. v) (λ h. i .brstcntrl);
     }
 
 -- the host FIFO: the checks have left room for the whole access
 host-a : (e : Event) (host : List ℕ) → length host + length (offered e) ≤ 128 → length host ≤ 128 → length (hostA e host) ≤ 128
 unfolding hostA
-host-a e host room h = go (rstfifo e) (portWrite e)
-  where
-    go : (t w : Bool) → length (cond t [] (cond w (host ++ offered e) (drop (asked e) host))) ≤ 128
-    go true w = omega arith
-    go false true = simp length-append room
-    go false false = simp length-drop (omega arith)
+host-a e host room h =
+    cond-case (λ (l : List ℕ). length l ≤ 128) (rstfifo e) _ _ (λ t. omega arith)
+    (λ t. cond-case (λ (l : List ℕ). length l ≤ 128) (portWrite e) _ _ (λ w. simp length-append room) (λ w. simp length-drop (omega arith)))
 
 host-bytes-a : (e : Event) (host : List ℕ) → EventFits e → Bytes host → Bytes (hostA e host)
 unfolding hostA
-host-bytes-a e host f h = go (rstfifo e) (portWrite e)
-  where
-    go : (t w : Bool) → Bytes (cond t [] (cond w (host ++ offered e) (drop (asked e) host)))
-    go true w = tt
-    go false true = bytes-append host (offered e) h (offered-fits e f)
-    go false false = bytes-drop (asked e) host h
+host-bytes-a e host f h =
+    cond-case Bytes (rstfifo e) _ _ (λ t. tt)
+    (λ t. cond-case Bytes (portWrite e) _ _ (λ w. bytes-append host (offered e) h (offered-fits e f)) (λ w. bytes-drop (asked e) host h))
 
 -- one ACK more is in range, and so is a counter with one of its bytes written
 pub counted-fits : (n : ℕ) → counted n < counterSize
@@ -226,12 +226,18 @@ unfolding transferA
 transfer-a acked t e f room i =
     record {
       host = host-a e (t .host) room (i .host);
-      scsi = cond-case (λ (l : List ℕ). length l ≤ 8) (clrch e) [] (t .scsi) (λ h. omega arith) (λ h. i .scsi);
+      scsi = cond-case (λ (l : List ℕ). length l ≤ 8) (clrch e) _ _ (λ h. omega arith) (λ h. i .scsi);
       counter = counter-a acked e (t .counter) f (i .counter);
-      offset = cond-case (λ n. n ≤ 8) (clrch e) 0 (t .offset) (λ h. omega arith) (λ h. i .offset);
+      offset = cond-case (λ n. n ≤ 8) (clrch e) _ _ (λ h. omega arith) (λ h. i .offset);
+    }
+
+transfer-bytes-a : (acked : Bool) (t : Transfer) (e : Event) → EventFits e → TransferBytes t → TransferBytes (transferA acked t e)
+unfolding transferA
+transfer-bytes-a acked t e f i =
+    record {
       last = i .last;
-      hostBytes = host-bytes-a e (t .host) f (i .hostBytes);
-      scsiBytes = cond-case Bytes (clrch e) [] (t .scsi) (λ h. tt) (λ h. i .scsiBytes);
+      host = host-bytes-a e (t .host) f (i .host);
+      scsi = cond-case Bytes (clrch e) _ _ (λ h. tt) (λ h. i .scsi);
     }
 
 pointer-fits : (wide : Bool) (k : Stack) → pointerAfter wide k < 32
@@ -239,44 +245,54 @@ unfolding pointerAfter stackPlace
 pointer-fits true k = omega arith
 pointer-fits false k = omega arith
 
-stack-written : (wide : Bool) (v : ℕ) (k : Stack) → v < 256 → StackFits k → StackFits (stackWritten wide v k)
-unfolding stackWritten
-stack-written wide v k h i =
-    record {
-      pointer = pointer-fits wide k;
-      size = length-set (k .bytes) (stackPlace wide k) v ∙ i .size;
-      bytes = bytes-set (k .bytes) (stackPlace wide k) v h (i .bytes);
-    }
-
-stack-a : (wide : Bool) (k : Stack) (e : Event) → EventFits e → StackFits k → StackFits (stackA wide k e)
-unfolding stackA stackRead pointed
-stack-a wide k e f i = go (writes e STACK) (reads e STACK) (writes e DMACNTRL1)
+stack-a : (wide : Bool) (k : Stack) (e : Event) → StackFits k → StackFits (stackA wide k e)
+unfolding stackA stackWritten stackRead pointed
+stack-a wide k e i = go (writes e STACK) (reads e STACK) (writes e DMACNTRL1)
   where
     go : (w r p : Bool) → StackFits (cond w (stackWritten wide (valueOf e) k) (cond r (stackRead wide k) (cond p (pointed (valueOf e) k) k)))
-    go true r p = stack-written wide (valueOf e) k (value-of-fits e f) i
-    go false true p = record { pointer = pointer-fits wide k; size = i .size; bytes = i .bytes }
-    go false false true = record { pointer = omega arith; size = i .size; bytes = i .bytes }
+    go true r p = record { pointer = pointer-fits wide k; size = length-set (k .bytes) (stackPlace wide k) (valueOf e) ∙ i .size }
+    go false true p = record { pointer = pointer-fits wide k; size = i .size }
+    go false false true = record { pointer = omega arith; size = i .size }
+    go false false false = i
+
+stack-bytes-a : (wide : Bool) (k : Stack) (e : Event) → EventFits e → Bytes (k .bytes) → Bytes ((stackA wide k e) .bytes)
+unfolding stackA stackWritten stackRead pointed
+stack-bytes-a wide k e f i = go (writes e STACK) (reads e STACK) (writes e DMACNTRL1)
+  where
+    go : (w r p : Bool) → Bytes ((cond w (stackWritten wide (valueOf e) k) (cond r (stackRead wide k) (cond p (pointed (valueOf e) k) k))) .bytes)
+    go true r p = bytes-set (k .bytes) (stackPlace wide k) (valueOf e) (value-of-fits e f) i
+    go false true p = i
+    go false false true = i
     go false false false = i
 
 identity-a : (n : ℕ) (e : Event) → n < 32 → identityA n e < 32
 unfolding identityA
-identity-a n e h = cond-case (λ m. m < 32) (reads e ID) ((n + 1) % 32) n (λ q. omega arith) (λ q. h)
+identity-a n e h = cond-case (λ m. m < 32) (reads e ID) _ _ (λ q. omega arith) (λ q. h)
 
 -- after A: nothing is out of range where the port has room
 after-a : (s : State) (e : Event) → EventFits e → length (s .transfer .host) + length (offered e) ≤ 128 → InRange s → InRange (afterA s e)
 unfolding afterA
 after-a s e f room i =
     record {
-      byte = lines-fit e (s .lines) f (i .byte);
-      registers = registers-a (s .registers) e f (i .registers);
+      registers = registers-a (s .registers) e (i .registers);
       transfer = transfer-a (automaticAck s e) (s .transfer) e f room (i .transfer);
-      stack = stack-a (s .registers .dmacntrl1 .enstk32) (s .stack) e f (i .stack);
+      stack = stack-a (s .registers .dmacntrl1 .enstk32) (s .stack) e (i .stack);
       quiet = i .quiet;
       identity = identity-a (s .identity) e (i .identity);
     }
 
+bytes-after-a : (s : State) (e : Event) → EventFits e → InBytes s → InBytes (afterA s e)
+unfolding afterA
+bytes-after-a s e f i =
+    record {
+      lines = lines-fit e (s .lines) f (i .lines);
+      registers = registers-bytes-a (s .registers) e f (i .registers);
+      transfer = transfer-bytes-a (automaticAck s e) (s .transfer) e f (i .transfer);
+      stack = stack-bytes-a (s .registers .dmacntrl1 .enstk32) (s .stack) e f (i .stack);
+    }
+
 -- the data driven and the data seen are bytes
-pub data-driven-fits : (r : Registers) (l : Lines) (t : Transfer) → RegistersFit r → TransferFits t → dataDriven r l t < 256
+pub data-driven-fits : (r : Registers) (l : Lines) (t : Transfer) → RegistersBytes r → TransferBytes t → dataDriven r l t < 256
 unfolding dataDriven
 data-driven-fits r l t i j = go (driving r l t) (normal r)
   where
@@ -285,7 +301,7 @@ data-driven-fits r l t i j = go (driving r l t) (normal r)
     go true false = i .scsidat
     go false n = omega arith
 
-pub data-seen-fits : (r : Registers) (l : Lines) (t : Transfer) → l .byte < 256 → RegistersFit r → TransferFits t → dataSeen r l t < 256
+pub data-seen-fits : (r : Registers) (l : Lines) (t : Transfer) → l .byte < 256 → RegistersBytes r → TransferBytes t → dataSeen r l t < 256
 unfolding dataSeen
 data-seen-fits r l t h i j = or-lt 8 (l .byte) (dataDriven r l t) h (data-driven-fits r l t i j)
 
@@ -315,30 +331,34 @@ scsi-room last now ticks e =
 -- B, by component
 quiet-b : (last now : State) (ticks : ℕ) → (edges last now ticks) .quiet ≤ 8
 unfolding edges quietAfter
-quiet-b last now ticks = go (bsySeen (registersB (rstRises last now) false false (now .registers)) (now .lines) || selSeen (registersB (rstRises last now) false false (now .registers)) (now .lines))
-  where
-    go : (b : Bool) → cond b 0 (min 8 (now .quiet + ticks)) ≤ 8
-    go true = omega arith
-    go false = omega arith
+quiet-b last now ticks =
+    let r = registersB (rstRises last now) false false (now .registers) in
+    cond-case (λ n. n ≤ 8) (bsySeen r (now .lines) || selSeen r (now .lines)) _ _ (λ h. omega arith) (λ h. omega arith)
 
 registers-b : (reset bad free : Bool) (r : Registers) → RegistersFit r → RegistersFit (registersB reset bad free r)
 unfolding registersB
 registers-b reset bad free r i =
-    record { sxfr = i .sxfr; sofs = i .sofs; oid = i .oid; tid = i .tid; scsidat = i .scsidat; brstcntrl = i .brstcntrl }
+    record { sxfr = i .sxfr; sofs = i .sofs; oid = i .oid; tid = i .tid }
 
-transfer-b : (g : Edges) (byte : ℕ) (t : Transfer) → byte < 256 → (g .counted ≡ true → t .offset < 8) → (g .stored ≡ true → length (t .scsi) < 8) → TransferFits t → TransferFits (transferB g byte t)
+transfer-b : (g : Edges) (byte : ℕ) (t : Transfer) → (g .counted ≡ true → t .offset < 8) → (g .stored ≡ true → length (t .scsi) < 8) → TransferFits t → TransferFits (transferB g byte t)
 unfolding transferB
-transfer-b g byte t h up room i =
+transfer-b g byte t up room i =
     record {
       host = i .host;
-      scsi = cond-case (λ (l : List ℕ). length l ≤ 8) (g .stored) (t .scsi ++ (byte ∷ [])) (t .scsi) (λ e. simp length-append (omega (arith, room e))) (λ e. i .scsi);
+      scsi = cond-case (λ (l : List ℕ). length l ≤ 8) (g .stored) _ _ (λ e. simp length-append (omega (arith, room e))) (λ e. i .scsi);
       counter = i .counter;
       offset =
-          cond-case (λ n. n ≤ 8) (g .rstrises || g .free) 0 (cond (g .counted) (t .offset + 1) (t .offset)) (λ e. omega arith)
-          (λ e. cond-case (λ n. n ≤ 8) (g .counted) (t .offset + 1) (t .offset) (λ q. omega (arith, up q)) (λ q. i .offset));
+          cond-case (λ n. n ≤ 8) (g .rstrises || g .free) _ _ (λ e. omega arith)
+          (λ e. cond-case (λ n. n ≤ 8) (g .counted) _ _ (λ q. omega (arith, up q)) (λ q. i .offset));
+    }
+
+transfer-bytes-b : (g : Edges) (byte : ℕ) (t : Transfer) → byte < 256 → TransferBytes t → TransferBytes (transferB g byte t)
+unfolding transferB
+transfer-bytes-b g byte t h i =
+    record {
       last = i .last;
-      hostBytes = i .hostBytes;
-      scsiBytes = cond-case Bytes (g .stored) (t .scsi ++ (byte ∷ [])) (t .scsi) (λ e. bytes-append (t .scsi) (byte ∷ []) (i .scsiBytes) (h, tt)) (λ e. i .scsiBytes);
+      host = i .host;
+      scsi = cond-case Bytes (g .stored) _ _ (λ e. bytes-append (t .scsi) (byte ∷ []) (i .scsi) (h, tt)) (λ e. i .scsi);
     }
 
 applied-fits : (last now : State) (ticks : ℕ) → InRange now → InRange (applied (edges last now ticks) last now)
@@ -346,11 +366,9 @@ unfolding applied
 applied-fits last now ticks i =
     let g = edges last now ticks in
     record {
-      byte = i .byte;
       registers = registers-b (g .rstrises) (g .paritybad) (g .free) (now .registers) (i .registers);
       transfer =
           transfer-b g (dataSeen (now .registers) (now .lines) (now .transfer)) (now .transfer)
-          (data-seen-fits (now .registers) (now .lines) (now .transfer) (i .byte) (i .registers) (i .transfer))
           (offset-room last now ticks) (scsi-room last now ticks) (i .transfer);
       stack = i .stack;
       quiet = quiet-b last now ticks;
@@ -362,85 +380,97 @@ after-b : (s : State) (e : Event) → InRange (afterA s e) → InRange (afterB s
 unfolding edgesOf afterB
 after-b s e i = applied-fits s (afterA s e) (ticksOf e) i
 
--- settling keeps the data path in range, and sends bytes only
-pub record SettlingFits (s : Settling) : Type 0 where
-  pub transfer : TransferFits (s .transfer)
+bytes-after-b : (s : State) (e : Event) → InBytes (afterA s e) → InBytes (afterB s e)
+unfolding afterB applied registersB
+bytes-after-b s e i =
+    let a = afterA s e in
+    record {
+      lines = i .lines;
+      registers = record { scsidat = i .registers .scsidat; brstcntrl = i .registers .brstcntrl };
+      transfer =
+          transfer-bytes-b (edgesOf s e) (dataSeen (a .registers) (a .lines) (a .transfer)) (a .transfer)
+          (data-seen-fits (a .registers) (a .lines) (a .transfer) (i .lines) (i .registers) (i .transfer)) (i .transfer);
+      stack = i .stack;
+    }
+
+-- settling keeps the data path in range
+module _ (c : Conditions) (s : Settling) where
+  fits-move : canMove c (s .transfer) ≡ true → TransferFits (s .transfer) → TransferFits ((move c s) .transfer)
+  unfolding move
+  fits-move h i = record { host = host (c .outbound) refl; scsi = move-full c s h (i .scsi); counter = i .counter; offset = i .offset }
+    where
+      host : (o : Bool) → c .outbound ≡ o → length ((move c s) .transfer .host) ≤ 128
+      host true o = rw o (simp length-drop (omega (arith, i .host)))
+      host false o = rw o (simp (length-append, length-take) (omega (arith, move-inbound c (s .transfer) o h)))
+
+  fits-handshake : canHandshake c (s .transfer) ≡ true → TransferFits (s .transfer) → TransferFits ((handshake c s) .transfer)
+  unfolding handshake
+  fits-handshake h i =
+      record {
+        host = i .host;
+        scsi = handshake-full c s h (i .scsi);
+        counter = counted-fits (s .transfer .counter);
+        offset = cond-case (λ n. n ≤ 8) (c .synchronous) _ _ (λ y. omega (arith, i .offset)) (λ y. i .offset);
+      }
+
+pub fits-settle : (c : Conditions) (n : ℕ) (s : Settling) → TransferFits (s .transfer) → TransferFits ((settle c n s) .transfer)
+fits-settle c = settle-keeps (λ (s : Settling). TransferFits (s .transfer)) c (fits-move c) (fits-handshake c)
+
+-- settling stores and sends bytes only
+pub record SettlingBytes (s : Settling) : Type 0 where
+  pub transfer : TransferBytes (s .transfer)
   pub sent : Bytes (s .sent)
 
 module _ (c : Conditions) (byte : c .byte < 256) (s : Settling) where
-  fits-move : canMove c (s .transfer) ≡ true → SettlingFits s → SettlingFits (move c s)
+  bytes-move : canMove c (s .transfer) ≡ true → SettlingBytes s → SettlingBytes (move c s)
   unfolding move
-  fits-move h f = record { transfer = go (c .outbound) refl; sent = f .sent }
-    where
-      i : TransferFits (s .transfer)
-      i = f .transfer
-
-      go : (o : Bool) → c .outbound ≡ o → TransferFits ((move c s) .transfer)
-      go true o =
-          let e = move-outbound c (s .transfer) o h in
-          let y = i .host in
-          record {
-            host = rw o (simp length-drop (omega arith));
-            scsi = rw o (simp (length-append, length-take) (omega arith));
-            counter = i .counter;
-            offset = i .offset;
-            last = i .last;
-            hostBytes = rw o (bytes-drop 1 (s .transfer .host) (i .hostBytes));
-            scsiBytes = rw o (bytes-append (s .transfer .scsi) (take 1 (s .transfer .host)) (i .scsiBytes) (bytes-take 1 (s .transfer .host) (i .hostBytes)));
-          }
-      go false o =
-          let e = move-inbound c (s .transfer) o h in
-          let x = i .scsi in
-          record {
-            host = rw o (simp (length-append, length-take) (omega arith));
-            scsi = rw o (simp length-drop (omega arith));
-            counter = i .counter;
-            offset = i .offset;
-            last = i .last;
-            hostBytes = rw o (bytes-append (s .transfer .host) (take 1 (s .transfer .scsi)) (i .hostBytes) (bytes-take 1 (s .transfer .scsi) (i .scsiBytes)));
-            scsiBytes = rw o (bytes-drop 1 (s .transfer .scsi) (i .scsiBytes));
-          }
-
-  fits-handshake : canHandshake c (s .transfer) ≡ true → SettlingFits s → SettlingFits (handshake c s)
-  unfolding handshake
-  fits-handshake h f =
+  bytes-move h f =
+      let i = f .transfer in
+      let t = s .transfer in
       record {
         transfer =
             record {
-              host = i .host;
-              scsi = scsi (c .outbound) (c .synchronous) refl refl;
-              counter = counted-fits (s .transfer .counter);
-              offset = cond-case (λ n. n ≤ 8) (c .synchronous) (s .transfer .offset - 1) (s .transfer .offset) (λ y. omega (arith, i .offset)) (λ y. i .offset);
-              last = cond-case (λ n. n < 256) (c .outbound) (getD (s .transfer .scsi) 0 0) (s .transfer .last) (λ o. bytes-at (s .transfer .scsi) 0 (i .scsiBytes)) (λ o. i .last);
-              hostBytes = i .hostBytes;
-              scsiBytes = cond-case Bytes (c .outbound) (drop 1 (s .transfer .scsi)) (s .transfer .scsi ++ storedBy c) (λ o. bytes-drop 1 (s .transfer .scsi) (i .scsiBytes)) (λ o. bytes-append (s .transfer .scsi) (storedBy c) (i .scsiBytes) stored);
+              last = i .last;
+              host = cond-case Bytes (c .outbound) _ _ (λ o. bytes-drop 1 (t .host) (i .host)) (λ o. bytes-append (t .host) (take 1 (t .scsi)) (i .host) (bytes-take 1 (t .scsi) (i .scsi)));
+              scsi = cond-case Bytes (c .outbound) _ _ (λ o. bytes-append (t .scsi) (take 1 (t .host)) (i .scsi) (bytes-take 1 (t .host) (i .host))) (λ o. bytes-drop 1 (t .scsi) (i .scsi));
             };
-        sent = cond-case Bytes (c .outbound) (s .sent ++ take 1 (s .transfer .scsi)) (s .sent) (λ o. bytes-append (s .sent) (take 1 (s .transfer .scsi)) (f .sent) (bytes-take 1 (s .transfer .scsi) (i .scsiBytes))) (λ o. f .sent);
+        sent = f .sent;
+      }
+
+  bytes-handshake : canHandshake c (s .transfer) ≡ true → SettlingBytes s → SettlingBytes (handshake c s)
+  unfolding handshake
+  bytes-handshake h f =
+      let i = f .transfer in
+      let t = s .transfer in
+      record {
+        transfer =
+            record {
+              last = cond-case (λ n. n < 256) (c .outbound) _ _ (λ o. bytes-at (t .scsi) 0 (i .scsi)) (λ o. i .last);
+              host = i .host;
+              scsi = cond-case Bytes (c .outbound) _ _ (λ o. bytes-drop 1 (t .scsi) (i .scsi)) (λ o. bytes-append (t .scsi) (storedBy c) (i .scsi) stored);
+            };
+        sent = cond-case Bytes (c .outbound) _ _ (λ o. bytes-append (s .sent) (take 1 (t .scsi)) (f .sent) (bytes-take 1 (t .scsi) (i .scsi))) (λ o. f .sent);
       }
     where
-      i : TransferFits (s .transfer)
-      i = f .transfer
-
       stored : Bytes (storedBy c)
       stored = cond-case Bytes (c .synchronous) [] (c .byte ∷ []) (λ y. tt) (λ y. (byte, tt))
 
-      scsi : (o y : Bool) → c .outbound ≡ o → c .synchronous ≡ y → length (cond o (drop 1 (s .transfer .scsi)) (s .transfer .scsi ++ cond y [] (c .byte ∷ []))) ≤ 8
-      scsi true y o e = simp length-drop (omega (arith, i .scsi))
-      scsi false true o e = simp length-append (omega (arith, i .scsi))
-      scsi false false o e = simp length-append (omega (arith, handshake-inbound c (s .transfer) o e h))
-
-pub fits-settle : (c : Conditions) → c .byte < 256 → (n : ℕ) (s : Settling) → SettlingFits s → SettlingFits (settle c n s)
-fits-settle c byte = settle-keeps SettlingFits c (fits-move c byte) (fits-handshake c byte)
+pub bytes-settle : (c : Conditions) → c .byte < 256 → (n : ℕ) (s : Settling) → SettlingBytes s → SettlingBytes (settle c n s)
+bytes-settle c byte = settle-keeps SettlingBytes c (bytes-move c byte) (bytes-handshake c byte)
 
 -- the byte on the bus, as settling sees it
-pub conditions-byte : (s : State) → InRange s → (conditions s) .byte < 256
+pub conditions-byte : (s : State) → InBytes s → (conditions s) .byte < 256
 unfolding conditions
-conditions-byte s i = data-seen-fits (s .registers) (s .lines) (s .transfer) (i .byte) (i .registers) (i .transfer)
+conditions-byte s i = data-seen-fits (s .registers) (s .lines) (s .transfer) (i .lines) (i .registers) (i .transfer)
 
-pub settled-fits : (s : State) (e : Event) → InRange (afterB s e) → SettlingFits (settledC s e)
+pub settled-fits : (s : State) (e : Event) → InRange (afterB s e) → TransferFits ((settledC s e) .transfer)
 unfolding settledC started
-settled-fits s e i =
-    fits-settle (conditions (afterB s e)) (conditions-byte (afterB s e) i) turns (started (afterB s e)) (record { transfer = i .transfer; sent = tt })
+settled-fits s e i = fits-settle (conditions (afterB s e)) turns (started (afterB s e)) (i .transfer)
+
+pub settled-bytes : (s : State) (e : Event) → InBytes (afterB s e) → SettlingBytes (settledC s e)
+unfolding settledC started
+settled-bytes s e i =
+    bytes-settle (conditions (afterB s e)) (conditions-byte (afterB s e) i) turns (started (afterB s e)) (record { transfer = i .transfer; sent = tt })
 
 pub settled-reports : (s : State) (e : Event) → InRange (afterB s e) → Report (conditions (afterB s e)) (settledC s e)
 unfolding settledC
@@ -452,90 +482,94 @@ pub after-d : (s : State) (e : Event) → InRange (afterB s e) → InRange (afte
 unfolding afterD finished
 after-d s e i =
     record {
-      byte = i .byte;
       registers = i .registers;
-      transfer = settled-fits s e i .transfer;
+      transfer = settled-fits s e i;
       stack = i .stack;
       quiet = i .quiet;
       identity = i .identity;
     }
 
+pub bytes-after-d : (s : State) (e : Event) → InBytes (afterB s e) → InBytes (afterD s e)
+unfolding afterD finished
+bytes-after-d s e i =
+    record { lines = i .lines; registers = i .registers; transfer = settled-bytes s e i .transfer; stack = i .stack }
+
 -- every register reads as a byte
-pub read-fits : (s : State) (r : Register) → InRange s → readOf s r < 256
+pub read-fits : (s : State) (r : Register) → InRange s → InBytes s → readOf s r < 256
 unfolding readOf scsisigi scsibus sstat0 sstat1 sstat2 sstat3 sstat4 dmastat idBytes stackByte
-read-fits s SCSISEQ i =
+read-fits s SCSISEQ i j =
     let q = s .registers .scsiseq in
     byte-fits (q .temodeo) (q .enselo) (q .enseli) (q .enrseli) (q .enautoatno) (q .enautoatni) (q .enautoatnp) (q .scsirsto)
-read-fits s SXFRCTL0 i =
+read-fits s SXFRCTL0 i j =
     let q = s .registers .sxfrctl0 in
     byte-fits (q .scsien) (q .dmaen) (q .chen) false (q .spioen) false false false
-read-fits s SXFRCTL1 i =
+read-fits s SXFRCTL1 i j =
     let q = s .registers .sxfrctl1 in
     byte-fits (q .bitbucket) (q .swrapen) (q .enspchk) (q .stimesel1) (q .stimesel0) (q .enstimer) (q .bytealign) false
-read-fits s SCSISIGI i =
+read-fits s SCSISIGI i j =
     let r = s .registers in
     let l = s .lines in
     byte-fits (l .cd) (l .io) (l .msg) (atnSeen r l) (selSeen r l) (bsySeen r l) (l .req) (ackSeen r l (s .transfer))
-read-fits s SELID i = omega arith
-read-fits s SCSIDAT i = data-seen-fits (s .registers) (s .lines) (s .transfer) (i .byte) (i .registers) (i .transfer)
-read-fits s SCSIBUS i = data-seen-fits (s .registers) (s .lines) (s .transfer) (i .byte) (i .registers) (i .transfer)
-read-fits s STCNT0 i = omega arith
-read-fits s STCNT1 i = omega arith
-read-fits s STCNT2 i = omega arith
-read-fits s SSTAT0 i = byte-fits false false false false false false (s .status .spiordy) false
-read-fits s SSTAT1 i =
+read-fits s SELID i j = omega arith
+read-fits s SCSIDAT i j = data-seen-fits (s .registers) (s .lines) (s .transfer) (j .lines) (j .registers) (j .transfer)
+read-fits s SCSIBUS i j = data-seen-fits (s .registers) (s .lines) (s .transfer) (j .lines) (j .registers) (j .transfer)
+read-fits s STCNT0 i j = omega arith
+read-fits s STCNT1 i j = omega arith
+read-fits s STCNT2 i j = omega arith
+read-fits s SSTAT0 i j = byte-fits false false false false false false (s .status .spiordy) false
+read-fits s SSTAT1 i j =
     let q = s .status in
     byte-fits false false (q .scsirsti) (phasemis s) (q .busfree) (q .scsiperr) (q .phasechg) (q .reqinit)
-read-fits s SSTAT2 i =
+read-fits s SSTAT2 i j =
     let n = length (s .transfer .scsi) in
     omega (arith, one-fits (not (eqb (s .transfer .offset) 0)), one-fits (eqb n 0), one-fits (eqb n 8))
-read-fits s SSTAT3 i = omega (arith, i .transfer .offset)
-read-fits s SSTAT4 i = byte-fits false false false false false (s .status .syncerr) (s .status .fwerr) false
-read-fits s SIMODE0 i =
+read-fits s SSTAT3 i j = omega (arith, i .transfer .offset)
+read-fits s SSTAT4 i j = byte-fits false false false false false (s .status .syncerr) (s .status .fwerr) false
+read-fits s SIMODE0 i j =
     let q = s .registers .simode0 in
     byte-fits false (q .enseldo) (q .enseldi) (q .enselingo) (q .enswrap) (q .ensdone) (q .enspiordy) (q .endmadone)
-read-fits s SIMODE1 i =
+read-fits s SIMODE1 i j =
     let q = s .registers .simode1 in
     byte-fits (q .enseltimo) (q .enatntarg) (q .enscsirst) (q .enphasemis) (q .enbusfree) (q .enscsiperr) (q .enphasechg) (q .enreqinit)
-read-fits s DMACNTRL0 i =
+read-fits s DMACNTRL0 i j =
     let q = s .registers .dmacntrl0 in
     byte-fits (q .endma) (q .eightbit) (q .dma) (q .dwordpio) (q .write) (q .inten) false (q .swint)
-read-fits s DMACNTRL1 i =
+read-fits s DMACNTRL1 i j =
     let q = s .registers .dmacntrl1 in
     omega (arith, one-fits (q .pwrdwn), one-fits (q .enstk32), i .stack .pointer)
-read-fits s DMASTAT i =
+read-fits s DMASTAT i j =
     let n = length (s .transfer .host) in
     byte-fits false (not (s .registers .dmacntrl0 .write) && leb 2 n) (instat s) (eqb n 128) (eqb n 0) (leb 64 n) false false
-read-fits s FIFOSTAT i = omega (arith, i .transfer .host)
-read-fits s DMADATA i = bytes-at (s .transfer .host) 0 (i .transfer .hostBytes)
-read-fits s BRSTCNTRL i = i .registers .brstcntrl
-read-fits s REV i = omega arith
-read-fits s STACK i = bytes-at (s .stack .bytes) (stackPlace (s .registers .dmacntrl1 .enstk32) (s .stack)) (i .stack .bytes)
-read-fits s ID i = bytes-at idBytes (s .identity) (bytes-computed idBytes refl)
-read-fits s SCSISIGO i = omega arith
-read-fits s SCSIRATE i = omega arith
-read-fits s SCSIID i = omega arith
-read-fits s CLRSINT0 i = omega arith
-read-fits s CLRSINT1 i = omega arith
-read-fits s SCSITEST i = omega arith
-read-fits s CLRSERR i = omega arith
-read-fits s TEST i = omega arith
+read-fits s FIFOSTAT i j = omega (arith, i .transfer .host)
+read-fits s DMADATA i j = bytes-at (s .transfer .host) 0 (j .transfer .host)
+read-fits s BRSTCNTRL i j = j .registers .brstcntrl
+read-fits s REV i j = omega arith
+read-fits s STACK i j = bytes-at (s .stack .bytes) (stackPlace (s .registers .dmacntrl1 .enstk32) (s .stack)) (j .stack)
+read-fits s ID i j = bytes-at idBytes (s .identity) (bytes-computed idBytes refl)
+read-fits s SCSISIGO i j = omega arith
+read-fits s SCSIRATE i j = omega arith
+read-fits s SCSIID i j = omega arith
+read-fits s CLRSINT0 i j = omega arith
+read-fits s CLRSINT1 i j = omega arith
+read-fits s SCSITEST i j = omega arith
+read-fits s CLRSERR i j = omega arith
+read-fits s TEST i j = omega arith
 
 -- every value read has at most 16 bits
-pub value-fits : (s : State) (e : Event) → InRange s → valueRead s e < 65536
+pub value-fits : (s : State) (e : Event) → InRange s → InBytes s → valueRead s e < 65536
 unfolding valueRead
-value-fits s PowerReset i = omega arith
-value-fits s (Write offset value) i = omega arith
-value-fits s (Read offset) i = mapped (readAt offset)
+value-fits s PowerReset i j = omega arith
+value-fits s (Write offset value) i j = omega arith
+value-fits s (Read offset) i j = mapped (readAt offset)
   where
     mapped : (m : Mapped) → readMapped s m < 65536
-    mapped (Present r) = omega (arith, read-fits s r i)
+    mapped (Present r) = omega (arith, read-fits s r i j)
     mapped Missing = omega arith
-value-fits s (WordWrite word) i = omega arith
-value-fits s WordRead i =
-    omega (arith, bytes-at (s .transfer .host) 0 (i .transfer .hostBytes), bytes-at (s .transfer .host) 1 (i .transfer .hostBytes))
-value-fits s (Drive lines) i = omega arith
-value-fits s (Ticks n) i = omega arith
+value-fits s (WordWrite word) i j = omega arith
+value-fits s WordRead i j =
+    omega (arith, bytes-at (s .transfer .host) 0 (j .transfer .host), bytes-at (s .transfer .host) 1 (j .transfer .host))
+value-fits s (Drive lines) i j = omega arith
+value-fits s (Ticks n) i j = omega arith
 
 refused-value-fits : (e : Event) → refusedValue e < 65536
 unfolding refusedValue
@@ -552,41 +586,59 @@ pub power-reset-fits : InRange powerReset
 unfolding powerReset
 power-reset-fits =
     record {
-      byte = omega arith;
       registers = omega arith;
-      transfer = record { host = omega arith; scsi = omega arith; counter = omega arith; offset = omega arith; last = omega arith; hostBytes = tt; scsiBytes = tt };
-      stack = record { pointer = omega arith; size = refl; bytes = bytes-zeros 32 };
+      transfer = omega arith;
+      stack = record { pointer = omega arith; size = refl };
       quiet = omega arith;
       identity = omega arith;
     }
 
--- what a step gives is in range: the state; a value of 16 bits; "at most 16" moves; "ACKs at most 8"; at most 8 bytes sent
+pub power-reset-bytes : InBytes powerReset
+unfolding powerReset
+power-reset-bytes =
+    record {
+      lines = omega arith;
+      registers = omega arith;
+      transfer = record { last = omega arith; host = tt; scsi = tt };
+      stack = bytes-zeros 32;
+    }
+
+-- what a step gives is in range: the state; "at most 16" moves; "ACKs at most 8"; at most 8 bytes sent
 pub record StepFits (r : Stepped) : Type 0 where
   pub state : InRange (r .state)
-  pub value : r .value < 65536
   pub moves : r .moves ≤ 16
   pub acks : r .acks ≤ 8
   pub sent : length (r .sent) ≤ 8
-  pub sentBytes : Bytes (r .sent)
 
-refused-fits : (s : State) (code : Code) (value : ℕ) → value < 65536 → InRange s → StepFits (refused s code value)
+-- and its bytes are bytes, its value one of 16 bits
+pub record StepBytes (r : Stepped) : Type 0 where
+  pub state : InBytes (r .state)
+  pub value : r .value < 65536
+  pub sent : Bytes (r .sent)
+
+refused-fits : (s : State) (code : Code) (value : ℕ) → InRange s → StepFits (refused s code value)
 unfolding refused
-refused-fits s code value h i =
-    record { state = i; value = h; moves = omega arith; acks = omega arith; sent = omega arith; sentBytes = tt }
+refused-fits s code value i = record { state = i; moves = omega arith; acks = omega arith; sent = omega arith }
+
+refused-bytes : (s : State) (code : Code) (value : ℕ) → value < 65536 → InBytes s → StepBytes (refused s code value)
+unfolding refused
+refused-bytes s code value h i = record { state = i; value = h; sent = tt }
 
 -- an access that is done has room at the port
-first-room : (a t h r b : Bool) → isDone (first (check a Absent ∷ check t TestValue ∷ check h Shut ∷ check r NoRoom ∷ check b NoBytes ∷ [])) ≡ true → r ≡ false
-first-room true t h r b e = absurd (never e)
-first-room false true h r b e = absurd (never e)
-first-room false false true r b e = absurd (never e)
-first-room false false false true b e = absurd (never e)
-first-room false false false false b e = refl
+is-done : (c : Code) → isDone c ≡ true → c ≡ Done
+is-done Done h = refl
+is-done Malformed h = absurd (never h)
+is-done Absent h = absurd (never h)
+is-done Shut h = absurd (never h)
+is-done NoRoom h = absurd (never h)
+is-done NoBytes h = absurd (never h)
+is-done BeyondLimit h = absurd (never h)
+is-done TestValue h = absurd (never h)
 
-port-room : (s : State) (e : Event) → isDone (accessCode s e) ≡ true → length (s .transfer .host) + length (offered e) ≤ 128
-unfolding accessCode noRoom
+pub port-room : (s : State) (e : Event) → isDone (accessCode s e) ≡ true → length (s .transfer .host) + length (offered e) ≤ 128
+unfolding noRoom
 port-room s e d =
-    ltb-false 128 (length (s .transfer .host) + length (offered e))
-    (first-room (absent e) (testValue e) (shut (s .registers) e) (noRoom s e) (noBytes s e) d)
+    ltb-false 128 (length (s .transfer .host) + length (offered e)) (done-passed s e (is-done (accessCode s e) d) .room)
 
 -- an access that is done leaves the state in range after A, and after B
 pub after-a-fits : (s : State) (e : Event) → EventFits e → isDone (accessCode s e) ≡ true → InRange s → InRange (afterA s e)
@@ -600,24 +652,29 @@ unfolding done
 done-fits s e f d i =
     let b = after-b-fits s e f d i in
     let r = settled-reports s e b in
-    record {
-      state = after-d s e b;
-      value = value-fits s e i;
-      moves = r .moves;
-      acks = r .acks;
-      sent = r .sent;
-      sentBytes = settled-fits s e b .sent;
-    }
+    record { state = after-d s e b; moves = r .moves; acks = r .acks; sent = r .sent }
+
+done-bytes : (s : State) (e : Event) → EventFits e → InRange s → InBytes s → StepBytes (done s e)
+unfolding done
+done-bytes s e f i j =
+    let b = bytes-after-b s e (bytes-after-a s e f j) in
+    record { state = bytes-after-d s e b; value = value-fits s e i j; sent = settled-bytes s e b .sent }
 
 access-fits : (s : State) (e : Event) → EventFits e → InRange s → StepFits (access s e)
 unfolding access
 access-fits s e f i =
-    cond-case StepFits (isDone (accessCode s e)) (done s e) (refused s (accessCode s e) (refusedValue e)) (λ d. done-fits s e f d i)
-    (λ d. refused-fits s (accessCode s e) (refusedValue e) (refused-value-fits e) i)
+    cond-case StepFits (isDone (accessCode s e)) _ _ (λ d. done-fits s e f d i)
+    (λ d. refused-fits s (accessCode s e) (refusedValue e) i)
+
+access-bytes : (s : State) (e : Event) → EventFits e → InRange s → InBytes s → StepBytes (access s e)
+unfolding access
+access-bytes s e f i j =
+    cond-case StepBytes (isDone (accessCode s e)) _ _ (λ d. done-bytes s e f i j)
+    (λ d. refused-bytes s (accessCode s e) (refusedValue e) (refused-value-fits e) j)
 
 event-step-fits : (s : State) (e : Event) → EventFits e → InRange s → StepFits (stepEvent s e)
 unfolding stepEvent
-event-step-fits s PowerReset f i = refused-fits powerReset Done 0 (omega arith) power-reset-fits
+event-step-fits s PowerReset f i = refused-fits powerReset Done 0 power-reset-fits
 event-step-fits s (Write offset value) f i = access-fits s (Write offset value) f i
 event-step-fits s (Read offset) f i = access-fits s (Read offset) f i
 event-step-fits s (WordWrite word) f i = access-fits s (WordWrite word) f i
@@ -625,15 +682,34 @@ event-step-fits s WordRead f i = access-fits s WordRead f i
 event-step-fits s (Drive lines) f i = access-fits s (Drive lines) f i
 event-step-fits s (Ticks n) f i = access-fits s (Ticks n) f i
 
+event-step-bytes : (s : State) (e : Event) → EventFits e → InRange s → InBytes s → StepBytes (stepEvent s e)
+unfolding stepEvent
+event-step-bytes s PowerReset f i j = refused-bytes powerReset Done 0 (omega arith) power-reset-bytes
+event-step-bytes s (Write offset value) f i j = access-bytes s (Write offset value) f i j
+event-step-bytes s (Read offset) f i j = access-bytes s (Read offset) f i j
+event-step-bytes s (WordWrite word) f i j = access-bytes s (WordWrite word) f i j
+event-step-bytes s WordRead f i j = access-bytes s WordRead f i j
+event-step-bytes s (Drive lines) f i j = access-bytes s (Drive lines) f i j
+event-step-bytes s (Ticks n) f i j = access-bytes s (Ticks n) f i j
+
 decoded-step-fits : (s : State) (d : Decoded) → DecodedFits d → InRange s → StepFits (stepDecoded s d)
 unfolding stepDecoded
 decoded-step-fits s (Well e) f i = event-step-fits s e f i
-decoded-step-fits s Ill f i = refused-fits s Malformed 0 (omega arith) i
+decoded-step-fits s Ill f i = refused-fits s Malformed 0 i
+
+decoded-step-bytes : (s : State) (d : Decoded) → DecodedFits d → InRange s → InBytes s → StepBytes (stepDecoded s d)
+unfolding stepDecoded
+decoded-step-bytes s (Well e) f i j = event-step-bytes s e f i j
+decoded-step-bytes s Ill f i j = refused-bytes s Malformed 0 (omega arith) j
 
 -- EVERY RECORD, whatever numbers it holds, leaves the state in range and reports at most 16 moves, 8 ACKs and 8 bytes
 pub step-fits : (s : State) (bytes : List ℕ) → InRange s → StepFits (step s bytes)
 unfolding step
 step-fits s bytes i = decoded-step-fits s (decode bytes) (decode-fits bytes) i
+
+pub step-bytes : (s : State) (bytes : List ℕ) → InRange s → InBytes s → StepBytes (step s bytes)
+unfolding step
+step-bytes s bytes i j = decoded-step-bytes s (decode bytes) (decode-fits bytes) i j
 
 -- and so does every list of records
 pub after-fits : (s : State) (records : List (List ℕ)) → InRange s → InRange (after s records)
@@ -657,22 +733,27 @@ pub record Bounded (s : State) : Type 0 where
 pub always-bounded : (records : List (List ℕ)) → Bounded (after powerReset records)
 always-bounded records =
     let i = always-in-range records in
-    record { offset = i .transfer .offset; scsi = i .transfer .scsi; host = i .transfer .host; counter = i .transfer .counter; pointer = i .stack .pointer }
+    record {
+      offset = i .transfer .offset;
+      scsi = i .transfer .scsi;
+      host = i .transfer .host;
+      counter = i .transfer .counter;
+      pointer = i .stack .pointer;
+    }
+
+-- and what is stored as a byte is one
+pub after-bytes : (s : State) (records : List (List ℕ)) → InRange s → InBytes s → InBytes (after s records)
+after-bytes s [] i j = j
+after-bytes s (bytes ∷ more) i j =
+    after-bytes ((step s bytes) .state) more (step-fits s bytes i .state) (step-bytes s bytes i j .state)
+
+pub always-in-bytes : (records : List (List ℕ)) → InBytes (after powerReset records)
+always-in-bytes records = after-bytes powerReset records power-reset-fits power-reset-bytes
 
 -- an answer is sixteen bytes
 pub record AnswerFits (l : List ℕ) : Type 0 where
   pub size : length l ≡ 16
   pub bytes : Bytes l
-
-code-fits : (c : Code) → numberOf c < 8
-code-fits Done = omega arith
-code-fits Malformed = omega arith
-code-fits Absent = omega arith
-code-fits Shut = omega arith
-code-fits NoRoom = omega arith
-code-fits NoBytes = omega arith
-code-fits BeyondLimit = omega arith
-code-fits TestValue = omega arith
 
 control-fits : (s : State) → controlDriven s < 256
 unfolding controlDriven
@@ -688,14 +769,14 @@ sent-fits : (l : List ℕ) → Bytes l → Bytes (padded 8 l)
 unfolding padded
 sent-fits l h = bytes-append l (replicate (8 - length l) 0) h (bytes-zeros (8 - length l))
 
-stepped-answer-fits : (r : Stepped) → StepFits r → AnswerFits (answerBytes (answerOf r))
+stepped-answer-fits : (r : Stepped) → StepFits r → StepBytes r → AnswerFits (answerBytes (answerOf r))
 unfolding answerOf answerBytes
-stepped-answer-fits r f =
+stepped-answer-fits r f g =
     let s = r .state in
     record {
       size = rw (sent-size (r .sent) (f .sent));
       bytes = (
-        omega (arith, code-fits (r .code), one-fits (irq s)),
+        omega (arith, eight-codes (r .code), one-fits (irq s)),
         (
           omega (arith, one-fits (driving (s .registers) (s .lines) (s .transfer)), one-fits (s .registers .scsiseq .scsirsto), one-fits (parityDriven (s .registers) (s .lines) (s .transfer))),
           (
@@ -705,12 +786,12 @@ stepped-answer-fits r f =
               (
                 control-fits s,
                 (
-                  data-driven-fits (s .registers) (s .lines) (s .transfer) (f .state .registers) (f .state .transfer),
+                  data-driven-fits (s .registers) (s .lines) (s .transfer) (g .state .registers) (g .state .transfer),
                   (
                     omega arith,
                     (
                       omega (arith, f .state .transfer .host),
-                      sent-fits (r .sent) (f .sentBytes),
+                      sent-fits (r .sent) (g .sent),
                     ),
                   ),
                 ),
@@ -722,6 +803,11 @@ stepped-answer-fits r f =
     }
 
 -- EVERY ANSWER IS SIXTEEN BYTES, each below 256
-pub answer-fits : (s : State) (bytes : List ℕ) → InRange s → AnswerFits (answer s bytes)
+pub answer-fits : (s : State) (bytes : List ℕ) → InRange s → InBytes s → AnswerFits (answer s bytes)
 unfolding answer
-answer-fits s bytes i = stepped-answer-fits (step s bytes) (step-fits s bytes i)
+answer-fits s bytes i j = stepped-answer-fits (step s bytes) (step-fits s bytes i) (step-bytes s bytes i j)
+
+-- FROM POWER RESET, AFTER ANY LIST OF RECORDS, THE NEXT ANSWER IS SIXTEEN BYTES
+pub always-answers : (records : List (List ℕ)) (bytes : List ℕ) → AnswerFits (answer (after powerReset records) bytes)
+always-answers records bytes =
+    answer-fits (after powerReset records) bytes (always-in-range records) (always-in-bytes records)

@@ -1,19 +1,19 @@
 -- Settling reaches rest: within 24 turns neither a move nor a handshake is possible, with at most 16 moves and 8 ACKs.
 use mathlib.Core.Path.{_≡_, refl, sym, _∙_}
 use mathlib.Core.Bool.{Bool, true, false, not, _&&_, _||_, cond}
-use mathlib.Core.List.{[], _∷_, _++_}
+use mathlib.Core.List.{[]}
 use Prim.Native.Nat.{ℕ, zero, suc, _+_, _*_, _-_, _<_, _≤_}
 use native.Mathlib.Omega.{arith}
 use native.Mathlib.Nat.{zero-add}
 use lib.Dec.{ltb}
-use lib.ListN.{length, take, drop, length-append, length-take, length-drop}
+use lib.ListN.{length, length-append, length-take, length-drop}
 use borrow.Author.Tests.{ltb-true, not-true}
-use Rattle.rules.specs.declared.chip.Conditions.{Conditions}
-use Rattle.rules.proofs.Logic.{never, left-true, right-true}
-use Rattle.rules.proofs.Settling.{settle-keeps}
 use Rattle.rules.specs.Numbers.{one}
 use Rattle.rules.specs.State.{State, Transfer}
 use Rattle.rules.specs.StepC.{Settling, canMove, move, canAsynchronous, canSynchronous, canHandshake, handshake, turn, settle, turns, started}
+use Rattle.rules.specs.declared.chip.Conditions.{Conditions}
+use Rattle.rules.proofs.Logic.{never, left-true, right-true}
+use Rattle.rules.proofs.Settling.{settle-keeps}
 
 -- neither a move nor a handshake is possible
 pub record Resting (c : Conditions) (t : Transfer) : Type 0 where
@@ -214,6 +214,24 @@ measure-small c t a b = go (c .outbound) (c .synchronous) (t .ack) refl refl ref
 pub settling-rests : (c : Conditions) (s : Settling) → length (s .transfer .scsi) ≤ 8 → s .transfer .offset ≤ 8 → Resting c ((settle c turns s) .transfer)
 settling-rests c s a b = settle-reaches c turns s (measure-small c (s .transfer) a b)
 
+-- the SCSI FIFO never holds more than 8: not after a move, nor after a handshake
+pub move-full : (c : Conditions) (s : Settling) → canMove c (s .transfer) ≡ true → length (s .transfer .scsi) ≤ 8 → length ((move c s) .transfer .scsi) ≤ 8
+unfolding move
+move-full c s h x = go (c .outbound) refl
+  where
+    go : (o : Bool) → c .outbound ≡ o → length ((move c s) .transfer .scsi) ≤ 8
+    go true o = rw o (simp (length-append, length-take) (omega (arith, move-outbound c (s .transfer) o h)))
+    go false o = rw o (simp length-drop (omega arith))
+
+pub handshake-full : (c : Conditions) (s : Settling) → canHandshake c (s .transfer) ≡ true → length (s .transfer .scsi) ≤ 8 → length ((handshake c s) .transfer .scsi) ≤ 8
+unfolding handshake
+handshake-full c s h x = go (c .outbound) (c .synchronous) refl refl
+  where
+    go : (o y : Bool) → c .outbound ≡ o → c .synchronous ≡ y → length ((handshake c s) .transfer .scsi) ≤ 8
+    go true y o e = rw o (simp length-drop (omega arith))
+    go false true o e = rw (o, e) (simp length-append (omega arith))
+    go false false o e = rw (o, e) (simp length-append (omega (arith, handshake-inbound c (s .transfer) o e h)))
+
 -- the bytes that ACKs have stored: inbound, one for each ACK that is asynchronous; a synchronous one was stored at its REQ
 abbrev pub storedByAcks : Conditions → ℕ → ℕ
 storedByAcks c acks = cond (c .synchronous) 0 acks
@@ -238,7 +256,7 @@ module _ (c : Conditions) (h n a : ℕ) (s : Settling) where
           let p : length (s .transfer .host) + s .moves ≡ h = rw o at (i .host) in
           let m : length (s .transfer .scsi) + s .acks ≡ n + s .moves = rw o at (i .scsi) in
           record {
-            full = rw o (simp (length-append, length-take) (omega arith));
+            full = move-full c s can (i .full);
             acks = i .acks;
             host = rw o (simp length-drop (omega arith));
             scsi = rw o (simp (length-append, length-take) (omega arith));
@@ -248,9 +266,8 @@ module _ (c : Conditions) (h n a : ℕ) (s : Settling) where
           let e = move-inbound c (s .transfer) o can in
           let p : length (s .transfer .host) ≡ h + s .moves = rw o at (i .host) in
           let m : length (s .transfer .scsi) + s .moves ≡ n + storedByAcks c (s .acks) = rw o at (i .scsi) in
-          let x = i .full in
           record {
-            full = rw o (simp length-drop (omega arith));
+            full = move-full c s can (i .full);
             acks = i .acks;
             host = rw o (simp (length-append, length-take) (omega arith));
             scsi = rw o (simp length-drop (omega arith));
@@ -260,40 +277,41 @@ module _ (c : Conditions) (h n a : ℕ) (s : Settling) where
   counts-handshake : canHandshake c (s .transfer) ≡ true → Counts c h n a s → Counts c h n a (handshake c s)
   unfolding handshake
   counts-handshake can i =
-      record { full = full (c .outbound) (c .synchronous) refl refl; acks = acks (c .synchronous) refl; host = i .host; scsi = scsi (c .outbound) (c .synchronous) refl refl; sent = sent (c .outbound) refl }
+      record {
+        full = handshake-full c s can (i .full);
+        acks = acks (c .synchronous) refl;
+        host = i .host;
+        scsi = scsi (c .outbound) (c .synchronous) refl refl;
+        sent = sent (c .outbound) refl;
+      }
     where
-      x : length (s .transfer .scsi) ≤ 8
-      x = i .full
+      t : Settling
+      t = handshake c s
 
-      full : (o y : Bool) → c .outbound ≡ o → c .synchronous ≡ y → length (cond o (drop 1 (s .transfer .scsi)) (s .transfer .scsi ++ cond y [] (c .byte ∷ []))) ≤ 8
-      full true y o e = simp length-drop (omega (arith, x))
-      full false true o e = simp length-append (omega (arith, x))
-      full false false o e = simp length-append (omega (arith, handshake-inbound c (s .transfer) o e can))
-
-      acks : (y : Bool) → c .synchronous ≡ y → s .acks + 1 + cond y (cond y (s .transfer .offset - 1) (s .transfer .offset)) (one (not (cond y (s .transfer .ack) true))) ≡ a
+      acks : (y : Bool) → c .synchronous ≡ y → t .acks + acksLeft c (t .transfer) ≡ a
       acks true y =
           let k : s .acks + s .transfer .offset ≡ a = rw y at (i .acks) in
-          omega (arith, synchronous-offset c (s .transfer) y can)
+          rw y (omega (arith, synchronous-offset c (s .transfer) y can))
       acks false y =
           let k : s .acks + 1 ≡ a = rw (y, asynchronous-ack c (s .transfer) y can) at (i .acks) in
-          omega arith
+          rw y (omega arith)
 
-      scsi : (o y : Bool) → c .outbound ≡ o → c .synchronous ≡ y → cond o (length (cond o (drop 1 (s .transfer .scsi)) (s .transfer .scsi ++ cond y [] (c .byte ∷ []))) + (s .acks + 1) ≡ n + s .moves) (length (cond o (drop 1 (s .transfer .scsi)) (s .transfer .scsi ++ cond y [] (c .byte ∷ []))) + s .moves ≡ n + cond y 0 (s .acks + 1))
+      scsi : (o y : Bool) → c .outbound ≡ o → c .synchronous ≡ y → cond (c .outbound) (length (t .transfer .scsi) + t .acks ≡ n + t .moves) (length (t .transfer .scsi) + t .moves ≡ n + storedByAcks c (t .acks))
       scsi true y o e =
           let m : length (s .transfer .scsi) + s .acks ≡ n + s .moves = rw o at (i .scsi) in
-          simp length-drop (omega (arith, handshake-outbound c (s .transfer) o can))
+          rw o (simp length-drop (omega (arith, handshake-outbound c (s .transfer) o can)))
       scsi false true o e =
           let m : length (s .transfer .scsi) + s .moves ≡ n + 0 = rw (o, e) at (i .scsi) in
-          simp length-append (omega arith)
+          rw (o, e) (simp length-append (omega arith))
       scsi false false o e =
           let m : length (s .transfer .scsi) + s .moves ≡ n + s .acks = rw (o, e) at (i .scsi) in
-          simp length-append (omega arith)
+          rw (o, e) (simp length-append (omega arith))
 
-      sent : (o : Bool) → c .outbound ≡ o → cond o (length (cond o (s .sent ++ take 1 (s .transfer .scsi)) (s .sent)) ≡ s .acks + 1) (cond o (s .sent ++ take 1 (s .transfer .scsi)) (s .sent) ≡ [])
+      sent : (o : Bool) → c .outbound ≡ o → cond (c .outbound) (length (t .sent) ≡ t .acks) (t .sent ≡ [])
       sent true o =
           let l : length (s .sent) ≡ s .acks = rw o at (i .sent) in
-          simp (length-append, length-take) (omega (arith, handshake-outbound c (s .transfer) o can))
-      sent false o = rw o at (i .sent)
+          rw o (simp (length-append, length-take) (omega (arith, handshake-outbound c (s .transfer) o can)))
+      sent false o = rw o (rw o at (i .sent))
 
 counts-settle : (c : Conditions) (h n a k : ℕ) (s : Settling) → Counts c h n a s → Counts c h n a (settle c k s)
 counts-settle c h n a = settle-keeps (Counts c h n a) c (counts-move c h n a) (counts-handshake c h n a)

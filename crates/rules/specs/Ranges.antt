@@ -5,42 +5,58 @@ use mathlib.Core.List.{List, [], _∷_}
 use lib.ListN.{length}
 use Rattle.rules.specs.State.{State, Transfer}
 use Rattle.rules.specs.Counter.{counterSize}
+use Rattle.rules.specs.Chips.{view, chipOf}
 use Rattle.rules.specs.declared.registers.Registers.{Registers}
 use Rattle.rules.specs.declared.chip.Stack.{Stack}
+use Rattle.rules.specs.declared.chip.Chip.{Chip}
 
--- every element is a byte
-abbrev pub Bytes : List ℕ → Type 0
-Bytes [] = Unit {0}
-Bytes (b ∷ l) = (b < 256) × Bytes l
-
--- "offset at most 8, SCSI FIFO at most 8, host FIFO at most 128, counter below 16,777,216"
+-- offset at most 8, SCSI FIFO at most 8, host FIFO at most 128, counter below 16,777,216
 pub record TransferFits (t : Transfer) : Type 0 where
   pub host : length (t .host) ≤ 128
   pub scsi : length (t .scsi) ≤ 8
   pub counter : t .counter < counterSize
   pub offset : t .offset ≤ 8
-  pub last : t .last < 256
-  pub hostBytes : Bytes (t .host)
-  pub scsiBytes : Bytes (t .scsi)
 
 pub record RegistersFit (r : Registers) : Type 0 where
   pub sxfr : r .scsirate .sxfr < 8
   pub sofs : r .scsirate .sofs < 16
   pub oid : r .scsiid .oid < 8
   pub tid : r .scsiid .tid < 8
-  pub scsidat : r .scsidat < 256
-  pub brstcntrl : r .brstcntrl < 256
 
--- "pointer below 32"
+-- pointer below 32
 pub record StackFits (k : Stack) : Type 0 where
   pub pointer : k .pointer < 32
   pub size : length (k .bytes) ≡ 32
-  pub bytes : Bytes (k .bytes)
 
 pub record InRange (s : State) : Type 0 where
-  pub byte : s .lines .byte < 256
   pub registers : RegistersFit (s .registers)
   pub transfer : TransferFits (s .transfer)
   pub stack : StackFits (s .stack)
   pub quiet : s .quiet ≤ 8
   pub identity : s .identity < 32
+
+-- a chip value in the one form that functions return, with its state in range
+pub record Tidy (c : Chip) : Type 0 where
+  pub packed : c ≡ chipOf (view c)
+  pub range : InRange (view c)
+
+-- every element is a byte
+abbrev pub Bytes : List ℕ → Type 0
+Bytes [] = Unit {0}
+Bytes (b ∷ l) = (b < 256) × Bytes l
+
+pub record TransferBytes (t : Transfer) : Type 0 where
+  pub last : t .last < 256
+  pub host : Bytes (t .host)
+  pub scsi : Bytes (t .scsi)
+
+pub record RegistersBytes (r : Registers) : Type 0 where
+  pub scsidat : r .scsidat < 256
+  pub brstcntrl : r .brstcntrl < 256
+
+-- what is stored as a byte is one
+pub record InBytes (s : State) : Type 0 where
+  pub lines : s .lines .byte < 256
+  pub registers : RegistersBytes (s .registers)
+  pub transfer : TransferBytes (s .transfer)
+  pub stack : Bytes (s .stack .bytes)

@@ -1,0 +1,212 @@
+-- Codes: which one, in which order, what a refusal leaves, and where code 6 comes from.
+use mathlib.Core.Path.{_≡_, refl, sym, _∙_, ap}
+use mathlib.Core.Bool.{Bool, true, false, not, _&&_, _||_, cond, and-not-self, and-false}
+use mathlib.Core.List.{List, [], _∷_}
+use Prim.Native.Nat.{ℕ, _≤_}
+use native.Mathlib.Omega.{arith}
+use Rattle.rules.specs.State.{State, powerReset}
+use Rattle.rules.specs.Seen.{reqSeen, rstSeen, matched, path, synchronous}
+use Rattle.rules.specs.Records.{decode}
+use Rattle.rules.specs.Events.{linesAfter, ticksOf}
+use Rattle.rules.specs.Codes.{numberOf, absent, testValue, shut, noRoom, noBytes, accessCode, refusedValue, isDone}
+use Rattle.rules.specs.StepA.{afterA}
+use Rattle.rules.specs.StepB.{edges, edgesOf, synchronousReq, reqRises, beyondLimit}
+use Rattle.rules.specs.Answers.{Stepped}
+use Rattle.rules.specs.Step.{refused, done, access, stepEvent, stepDecoded, step}
+use Rattle.rules.specs.declared.codes.Code.{Code}
+use Rattle.rules.specs.declared.codes.Code.the-variants.{Done, Malformed, Absent, Shut, NoRoom, NoBytes, BeyondLimit, TestValue}
+use Rattle.rules.specs.declared.records.Lines.{Lines}
+use Rattle.rules.specs.declared.records.Event.{Event}
+use Rattle.rules.specs.declared.records.Event.the-variants.{PowerReset, Write, Read, WordWrite, WordRead, Drive, Ticks}
+use Rattle.rules.specs.declared.records.Decoded.{Decoded}
+use Rattle.rules.specs.declared.records.Decoded.the-variants.{Well, Ill}
+use Rattle.rules.specs.Examples.{Row, row, misses}
+use Rattle.rules.proofs.Computes.{computes}
+use Rattle.rules.proofs.Logic.{never, cond-case}
+
+-- eight codes, 0 to 7
+pub eight-codes : (c : Code) → numberOf c ≤ 7
+eight-codes Done = omega arith
+eight-codes Malformed = omega arith
+eight-codes Absent = omega arith
+eight-codes Shut = omega arith
+eight-codes NoRoom = omega arith
+eight-codes NoBytes = omega arith
+eight-codes BeyondLimit = omega arith
+eight-codes TestValue = omega arith
+
+-- "Checked in the order 1, 2, 7, 3, then 4 or 5": each code where its check holds and none before it
+pub record Order (s : State) (e : Event) : Type 0 where
+  pub second : absent e ≡ true → accessCode s e ≡ Absent
+  pub third : absent e ≡ false → testValue e ≡ true → accessCode s e ≡ TestValue
+  pub fourth : absent e ≡ false → testValue e ≡ false → shut (s .registers) e ≡ true → accessCode s e ≡ Shut
+  pub fifth : absent e ≡ false → testValue e ≡ false → shut (s .registers) e ≡ false → noRoom s e ≡ true → accessCode s e ≡ NoRoom
+  pub sixth : absent e ≡ false → testValue e ≡ false → shut (s .registers) e ≡ false → noRoom s e ≡ false → noBytes s e ≡ true → accessCode s e ≡ NoBytes
+  pub none : absent e ≡ false → testValue e ≡ false → shut (s .registers) e ≡ false → noRoom s e ≡ false → noBytes s e ≡ false → accessCode s e ≡ Done
+
+pub in-order : (s : State) (e : Event) → Order s e
+unfolding accessCode
+in-order s e =
+    record {
+      second = λ a. rw a;
+      third = λ a b. rw (a, b);
+      fourth = λ a b c. rw (a, b, c);
+      fifth = λ a b c d. rw (a, b, c, d);
+      sixth = λ a b c d f. rw (a, b, c, d, f);
+      none = λ a b c d f. rw (a, b, c, d, f);
+    }
+
+-- so an access that is done passed every check
+pub record Passed (s : State) (e : Event) : Type 0 where
+  pub present : absent e ≡ false
+  pub value : testValue e ≡ false
+  pub port : shut (s .registers) e ≡ false
+  pub room : noRoom s e ≡ false
+  pub bytes : noBytes s e ≡ false
+
+pub done-passed : (s : State) (e : Event) → accessCode s e ≡ Done → Passed s e
+done-passed s e h =
+    go (absent e) (testValue e) (shut (s .registers) e) (noRoom s e) (noBytes s e) refl refl refl refl refl
+  where
+    o : Order s e
+    o = in-order s e
+
+    clash : {c : Code} → accessCode s e ≡ c → (numberOf c ≡ 0 → ⊥) → Passed s e
+    clash q f = absurd (f (ap numberOf (sym q ∙ h)))
+
+    go : (a b c d f : Bool) → absent e ≡ a → testValue e ≡ b → shut (s .registers) e ≡ c → noRoom s e ≡ d → noBytes s e ≡ f → Passed s e
+    go true b c d f p q r t u = clash (o .second p) (λ z. omega arith)
+    go false true c d f p q r t u = clash (o .third p q) (λ z. omega arith)
+    go false false true d f p q r t u = clash (o .fourth p q r) (λ z. omega arith)
+    go false false false true f p q r t u = clash (o .fifth p q r t) (λ z. omega arith)
+    go false false false false true p q r t u = clash (o .sixth p q r t u) (λ z. omega arith)
+    go false false false false false p q r t u = record { present = p; value = q; port = r; room = t; bytes = u }
+
+-- 1 comes first: a record that is not well formed gets it whatever the state
+pub first-malformed : (s : State) (bytes : List ℕ) → decode bytes ≡ Ill → (step s bytes) .code ≡ Malformed
+unfolding step stepDecoded refused
+first-malformed s bytes e = rw e
+
+-- the refusals: 1 to 5 and 7
+abbrev pub isRefusal : Code → Bool
+isRefusal Done = false
+isRefusal Malformed = true
+isRefusal Absent = true
+isRefusal Shut = true
+isRefusal NoRoom = true
+isRefusal NoBytes = true
+isRefusal BeyondLimit = false
+isRefusal TestValue = true
+
+pub record Unchanged (s : State) (r : Stepped) : Type 0 where
+  pub state : r .state ≡ s
+  pub moves : r .moves ≡ 0
+  pub acks : r .acks ≡ 0
+  pub sent : r .sent ≡ []
+
+done-unrefused : (s : State) (e : Event) → isRefusal ((done s e) .code) ≡ true → ⊥
+unfolding done
+done-unrefused s e =
+    cond-case (λ (c : Code). isRefusal c ≡ true → ⊥) ((edgesOf s e) .beyond) BeyondLimit Done (λ q. never) (λ q. never)
+
+access-refused : (s : State) (e : Event) → isRefusal ((access s e) .code) ≡ true → Unchanged s (access s e)
+unfolding access refused
+access-refused s e =
+    cond-case (λ (r : Stepped). isRefusal (r .code) ≡ true → Unchanged s r) (isDone (accessCode s e)) _ _
+    (λ q h. absurd (done-unrefused s e h)) (λ q h. record { state = refl; moves = refl; acks = refl; sent = refl })
+
+-- a refusal changes nothing and reports no ACK, no move, no sent byte
+pub refusal-changes-nothing : (s : State) (bytes : List ℕ) → isRefusal ((step s bytes) .code) ≡ true → Unchanged s (step s bytes)
+unfolding step stepDecoded stepEvent refused
+refusal-changes-nothing s bytes = go (decode bytes)
+  where
+    go : (d : Decoded) → isRefusal ((stepDecoded s d) .code) ≡ true → Unchanged s (stepDecoded s d)
+    go Ill h = record { state = refl; moves = refl; acks = refl; sent = refl }
+    go (Well PowerReset) h = absurd (never h)
+    go (Well (Write o v)) h = access-refused s (Write o v) h
+    go (Well (Read o)) h = access-refused s (Read o) h
+    go (Well (WordWrite w)) h = access-refused s (WordWrite w) h
+    go (Well WordRead) h = access-refused s WordRead h
+    go (Well (Drive l)) h = access-refused s (Drive l) h
+    go (Well (Ticks n)) h = access-refused s (Ticks n) h
+
+-- the value of a refusal: "FFh on read", "all ones of the width on read", "0 on write"
+access-value : (s : State) (e : Event) → isRefusal ((access s e) .code) ≡ true → (access s e) .value ≡ refusedValue e
+unfolding access refused
+access-value s e =
+    cond-case (λ (r : Stepped). isRefusal (r .code) ≡ true → r .value ≡ refusedValue e) (isDone (accessCode s e)) _ _
+    (λ q h. absurd (done-unrefused s e h)) (λ q h. refl)
+
+pub refusal-value : (s : State) (e : Event) → isRefusal ((stepEvent s e) .code) ≡ true → (stepEvent s e) .value ≡ refusedValue e
+unfolding stepEvent refused
+refusal-value s PowerReset h = absurd (never h)
+refusal-value s (Write o v) h = access-value s (Write o v) h
+refusal-value s (Read o) h = access-value s (Read o) h
+refusal-value s (WordWrite w) h = access-value s (WordWrite w) h
+refusal-value s WordRead h = access-value s WordRead h
+refusal-value s (Drive l) h = access-value s (Drive l) h
+refusal-value s (Ticks n) h = access-value s (Ticks n) h
+
+-- an event that leaves the lines as they are raises no REQ
+no-req : (s : State) (e : Event) → linesAfter e (s .lines) ≡ s .lines → (edgesOf s e) .beyond ≡ false
+unfolding edgesOf edges synchronousReq reqRises afterA
+no-req s e h = rw (h, and-not-self)
+
+done-beyond : (s : State) (e : Event) → linesAfter e (s .lines) ≡ s .lines → (done s e) .code ≡ BeyondLimit → ⊥
+unfolding done
+done-beyond s e h = rw (no-req s e h) (λ q. omega (arith, ap numberOf q))
+
+-- no check gives 6
+checks-beyond : (s : State) (e : Event) → accessCode s e ≡ BeyondLimit → ⊥
+unfolding accessCode
+checks-beyond s e =
+    at (absent e) (λ q. omega (arith, ap numberOf q))
+    (at (testValue e) (λ q. omega (arith, ap numberOf q))
+    (at (shut (s .registers) e) (λ q. omega (arith, ap numberOf q))
+    (at (noRoom s e) (λ q. omega (arith, ap numberOf q))
+    (at (noBytes s e) (λ q. omega (arith, ap numberOf q)) (λ q. omega (arith, ap numberOf q))))))
+  where
+    at : (t : Bool) {a b : Code} → (a ≡ BeyondLimit → ⊥) → (b ≡ BeyondLimit → ⊥) → cond t a b ≡ BeyondLimit → ⊥
+    at true f g = f
+    at false f g = g
+
+access-beyond : (s : State) (e : Event) → linesAfter e (s .lines) ≡ s .lines → (access s e) .code ≡ BeyondLimit → ⊥
+unfolding access refused
+access-beyond s e h =
+    cond-case (λ (r : Stepped). r .code ≡ BeyondLimit → ⊥) (isDone (accessCode s e)) _ _ (λ q. done-beyond s e h)
+    (λ q. checks-beyond s e)
+
+-- "6 arises only in kind 5"
+pub beyond-only-lines : (s : State) (bytes : List ℕ) → (step s bytes) .code ≡ BeyondLimit → (l : Lines) × (decode bytes ≡ Well (Drive l))
+unfolding step stepDecoded stepEvent refused linesAfter
+beyond-only-lines s bytes = go (decode bytes)
+  where
+    go : (d : Decoded) → (stepDecoded s d) .code ≡ BeyondLimit → (l : Lines) × (d ≡ Well (Drive l))
+    go Ill h = absurd (omega (arith, ap numberOf h))
+    go (Well PowerReset) h = absurd (omega (arith, ap numberOf h))
+    go (Well (Write o v)) h = absurd (access-beyond s (Write o v) refl h)
+    go (Well (Read o)) h = absurd (access-beyond s (Read o) refl h)
+    go (Well (WordWrite w)) h = absurd (access-beyond s (WordWrite w) refl h)
+    go (Well WordRead) h = absurd (access-beyond s WordRead refl h)
+    go (Well (Drive l)) h = (l, refl)
+    go (Well (Ticks n)) h = absurd (access-beyond s (Ticks n) refl h)
+
+-- each refusal with its value, computed: the code's three bits, then the value in the third and fourth byte
+abbrev refusalValues : List Row
+refusalValues =
+    row 0x44000000 0x400000FF000000000000000000000000  -- 344h is read: 2, FFh
+    ∷ row 0x27000055 0x40000000000000000000000000000000  -- 347h is written: 2, 0
+    ∷ row 0x2E000001 0xE0000000000000000000000000000000  -- 34Eh, a test value: 7, 0
+    ∷ row 0x56000000 0x600000FF000000000000000000000000  -- 356h, a byte, port shut: 3, FFh
+    ∷ row 0x80000000 0x6000FFFF000000000000000000000000  -- a word, port shut: 3, FFFFh
+    ∷ row 0x60001234 0x60000000000000000000000000000000  -- a word written, port shut: 3, 0
+    ∷ row 0x32000080 0x00000000000000000000000000000000
+    ∷ row 0x80000000 0xA000FFFF000000000000000000000000  -- a word, no bytes: 5, FFFFh
+    ∷ row 0x320000C0 0x00000000000000000000000000000000
+    ∷ row 0x56000000 0xA00000FF000000000000000000000000  -- a byte, no bytes: 5, FFh
+    ∷ row 0xC1000000 0x20000000000000000000000000000000  -- an offset where there is none: 1, 0
+    ∷ []
+
+pub values-hold : misses (refusalValues ∷ []) ≡ []
+unfolding computes
+values-hold = refl
