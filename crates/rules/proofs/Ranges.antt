@@ -50,44 +50,51 @@ use Rattle.rules.proofs.Refusals.{eight-codes, done-passed}
 use Rattle.rules.proofs.Rest.{move-inbound, move-full, handshake-full, Report, settling-reports}
 use Rattle.rules.proofs.Settling.{settle-keeps}
 
--- bytes stay bytes in every list that the rules make of them
+-- bytes one after the other are bytes
 pub bytes-append : (l k : List ℕ) → Bytes l → Bytes k → Bytes (l ++ k)
 bytes-append [] k p q = q
 bytes-append (b ∷ l) k p q = (p .0, bytes-append l k (p .1) q)
 
+-- the first of some bytes are bytes
 pub bytes-take : (n : ℕ) (l : List ℕ) → Bytes l → Bytes (take n l)
 bytes-take zero l p = tt
 bytes-take (suc n) [] p = tt
 bytes-take (suc n) (b ∷ l) p = (p .0, bytes-take n l (p .1))
 
+-- and so are those after them
 pub bytes-drop : (n : ℕ) (l : List ℕ) → Bytes l → Bytes (drop n l)
 bytes-drop zero l p = p
 bytes-drop (suc n) [] p = tt
 bytes-drop (suc n) (b ∷ l) p = bytes-drop n l (p .1)
 
+-- what stands at a place among bytes is a byte
 pub bytes-at : (l : List ℕ) (k : ℕ) → Bytes l → getD l k 0 < 256
 bytes-at [] k p = omega arith
 bytes-at (b ∷ l) zero p = p .0
 bytes-at (b ∷ l) (suc k) p = bytes-at l k (p .1)
 
+-- bytes with a byte stored among them are bytes
 pub bytes-set : (l : List ℕ) (k v : ℕ) → v < 256 → Bytes l → Bytes (set l k v)
 bytes-set [] k v h p = tt
 bytes-set (b ∷ l) zero v h p = (h, p .1)
 bytes-set (b ∷ l) (suc k) v h p = (p .0, bytes-set l k v h (p .1))
 
+-- zeros are bytes
 pub bytes-zeros : (n : ℕ) → Bytes (replicate n 0)
 bytes-zeros zero = tt
 bytes-zeros (suc n) = (omega arith, bytes-zeros n)
 
+-- a list whose test passes is a list of bytes
 pub bytes-computed : (l : List ℕ) → areBytes l ≡ true → Bytes l
 bytes-computed [] h = tt
 bytes-computed (b ∷ l) h = (ltb-true b 256 (left-true (ltb b 256) (areBytes l) h), bytes-computed l (right-true (ltb b 256) (areBytes l) h))
 
--- eight bits are a byte
+-- a bit is at most 1
 pub one-fits : (b : Bool) → one b ≤ 1
 one-fits true = omega arith
 one-fits false = omega arith
 
+-- eight bits packed are below 256
 pub byte-fits : (b7 b6 b5 b4 b3 b2 b1 b0 : Bool) → byteOf b7 b6 b5 b4 b3 b2 b1 b0 < 256
 byte-fits b7 b6 b5 b4 b3 b2 b1 b0 =
     omega (arith, one-fits b7, one-fits b6, one-fits b5, one-fits b4, one-fits b3, one-fits b2, one-fits b1, one-fits b0)
@@ -102,6 +109,7 @@ EventFits WordRead = Unit {0}
 EventFits (Drive lines) = lines .byte < 256
 EventFits (Ticks n) = n < 16777216
 
+-- what is decoded is in range
 abbrev pub DecodedFits : Decoded → Type 0
 DecodedFits (Well e) = EventFits e
 DecodedFits Ill = Unit {0}
@@ -301,6 +309,7 @@ data-driven-fits r l t i j = go (driving r l t) (normal r)
     go true false = i .scsidat
     go false n = omega arith
 
+-- the data seen, driven by others or by the chip, is a byte
 pub data-seen-fits : (r : Registers) (l : Lines) (t : Transfer) → l .byte < 256 → RegistersBytes r → TransferBytes t → dataSeen r l t < 256
 unfolding dataSeen
 data-seen-fits r l t h i j = or-lt 8 (l .byte) (dataDriven r l t) h (data-driven-fits r l t i j)
@@ -321,7 +330,7 @@ stored-room false a i true e = sym e
 offset-room : (last now : State) (ticks : ℕ) → (edges last now ticks) .counted ≡ true → now .transfer .offset < 8
 unfolding edges beyondLimit limit
 offset-room last now ticks e =
-    omega (arith, leb-false (limit (now .registers)) (now .transfer .offset) (counted-room (synchronousReq last now) (leb (limit (now .registers)) (now .transfer .offset)) (ioSeen (now .registers) (now .lines) && leb 8 (length (now .transfer .scsi))) e))
+    omega (arith, leb-false (limit (now .registers)) (now .transfer .offset) (counted-room (synchronousReq last now) (leb (limit (now .registers)) (now .transfer .offset)) _ e))
 
 scsi-room : (last now : State) (ticks : ℕ) → (edges last now ticks) .stored ≡ true → length (now .transfer .scsi) < 8
 unfolding edges beyondLimit
@@ -413,6 +422,7 @@ module _ (c : Conditions) (s : Settling) where
         offset = cond-case (λ n. n ≤ 8) (c .synchronous) _ _ (λ y. omega (arith, i .offset)) (λ y. i .offset);
       }
 
+-- settling keeps the data path in range, however many turns it takes
 pub fits-settle : (c : Conditions) (n : ℕ) (s : Settling) → TransferFits (s .transfer) → TransferFits ((settle c n s) .transfer)
 fits-settle c = settle-keeps (λ (s : Settling). TransferFits (s .transfer)) c (fits-move c) (fits-handshake c)
 
@@ -455,6 +465,7 @@ module _ (c : Conditions) (byte : c .byte < 256) (s : Settling) where
       stored : Bytes (storedBy c)
       stored = cond-case Bytes (c .synchronous) [] (c .byte ∷ []) (λ y. tt) (λ y. (byte, tt))
 
+-- settling keeps bytes bytes
 pub bytes-settle : (c : Conditions) → c .byte < 256 → (n : ℕ) (s : Settling) → SettlingBytes s → SettlingBytes (settle c n s)
 bytes-settle c byte = settle-keeps SettlingBytes c (bytes-move c byte) (bytes-handshake c byte)
 
@@ -463,15 +474,18 @@ pub conditions-byte : (s : State) → InBytes s → (conditions s) .byte < 256
 unfolding conditions
 conditions-byte s i = data-seen-fits (s .registers) (s .lines) (s .transfer) (i .lines) (i .registers) (i .transfer)
 
+-- the data path after C is in range
 pub settled-fits : (s : State) (e : Event) → InRange (afterB s e) → TransferFits ((settledC s e) .transfer)
 unfolding settledC started
 settled-fits s e i = fits-settle (conditions (afterB s e)) turns (started (afterB s e)) (i .transfer)
 
+-- the data path after C holds bytes, and what C sends is bytes
 pub settled-bytes : (s : State) (e : Event) → InBytes (afterB s e) → SettlingBytes (settledC s e)
 unfolding settledC started
 settled-bytes s e i =
     bytes-settle (conditions (afterB s e)) (conditions-byte (afterB s e) i) turns (started (afterB s e)) (record { transfer = i .transfer; sent = tt })
 
+-- C reports at most 16 moves, 8 ACKs and 8 bytes sent
 pub settled-reports : (s : State) (e : Event) → InRange (afterB s e) → Report (conditions (afterB s e)) (settledC s e)
 unfolding settledC
 settled-reports s e i =
@@ -489,6 +503,7 @@ after-d s e i =
       identity = i .identity;
     }
 
+-- and holds bytes
 pub bytes-after-d : (s : State) (e : Event) → InBytes (afterB s e) → InBytes (afterD s e)
 unfolding afterD finished
 bytes-after-d s e i =
@@ -593,6 +608,7 @@ power-reset-fits =
       identity = omega arith;
     }
 
+-- power reset holds bytes
 pub power-reset-bytes : InBytes powerReset
 unfolding powerReset
 power-reset-bytes =
@@ -624,7 +640,7 @@ refused-bytes : (s : State) (code : Code) (value : ℕ) → value < 65536 → In
 unfolding refused
 refused-bytes s code value h i = record { state = i; value = h; sent = tt }
 
--- an access that is done has room at the port
+-- a code that counts as done is Done
 is-done : (c : Code) → isDone c ≡ true → c ≡ Done
 is-done Done h = refl
 is-done Malformed h = absurd (never h)
@@ -635,15 +651,17 @@ is-done NoBytes h = absurd (never h)
 is-done BeyondLimit h = absurd (never h)
 is-done TestValue h = absurd (never h)
 
+-- the bytes that an access offers fit into the host FIFO where it is done
 pub port-room : (s : State) (e : Event) → isDone (accessCode s e) ≡ true → length (s .transfer .host) + length (offered e) ≤ 128
 unfolding noRoom
 port-room s e d =
     ltb-false 128 (length (s .transfer .host) + length (offered e)) (done-passed s e (is-done (accessCode s e) d) .room)
 
--- an access that is done leaves the state in range after A, and after B
+-- an access that is done leaves the state in range after A
 pub after-a-fits : (s : State) (e : Event) → EventFits e → isDone (accessCode s e) ≡ true → InRange s → InRange (afterA s e)
 after-a-fits s e f d i = after-a s e f (port-room s e d) i
 
+-- and after B
 pub after-b-fits : (s : State) (e : Event) → EventFits e → isDone (accessCode s e) ≡ true → InRange s → InRange (afterB s e)
 after-b-fits s e f d i = after-b s e (after-a-fits s e f d i)
 
@@ -707,6 +725,7 @@ pub step-fits : (s : State) (bytes : List ℕ) → InRange s → StepFits (step 
 unfolding step
 step-fits s bytes i = decoded-step-fits s (decode bytes) (decode-fits bytes) i
 
+-- every record leaves bytes where bytes are stored, sends bytes, and gives a value of 16 bits
 pub step-bytes : (s : State) (bytes : List ℕ) → InRange s → InBytes s → StepBytes (step s bytes)
 unfolding step
 step-bytes s bytes i j = decoded-step-bytes s (decode bytes) (decode-fits bytes) i j
@@ -747,6 +766,7 @@ after-bytes s [] i j = j
 after-bytes s (bytes ∷ more) i j =
     after-bytes ((step s bytes) .state) more (step-fits s bytes i .state) (step-bytes s bytes i j .state)
 
+-- from power reset, after any list of records, what is stored as a byte is one
 pub always-in-bytes : (records : List (List ℕ)) → InBytes (after powerReset records)
 always-in-bytes records = after-bytes powerReset records power-reset-fits power-reset-bytes
 

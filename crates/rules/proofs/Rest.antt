@@ -76,14 +76,14 @@ module _ (c : Conditions) (t : Transfer) where
   pub synchronous-offset : c .synchronous ≡ true → canHandshake c t ≡ true → 0 < t .offset
   unfolding canSynchronous
   synchronous-offset y h =
-      ltb-true 0 (t .offset) (left-true (ltb 0 (t .offset)) (cond (c .outbound) (ltb 0 (length (t .scsi))) (ltb (length (t .scsi)) (t .offset))) (handshake-synchronous y h))
+      ltb-true 0 (t .offset) (left-true (ltb 0 (t .offset)) _ (handshake-synchronous y h))
 
   -- an asynchronous handshake finds automatic ACK off
   pub asynchronous-ack : c .synchronous ≡ false → canHandshake c t ≡ true → t .ack ≡ false
   unfolding canAsynchronous
   asynchronous-ack y h =
       let e = handshake-asynchronous y h in
-      not-true (t .ack) (right-true (c .req) (not (t .ack)) (left-true (c .req && not (t .ack)) (cond (c .outbound) (ltb 0 (length (t .scsi))) (ltb (length (t .scsi)) 8)) e))
+      not-true (t .ack) (right-true (c .req) (not (t .ack)) (left-true (c .req && not (t .ack)) _ e))
 
   -- an outbound handshake has a byte to send
   pub handshake-outbound : c .outbound ≡ true → canHandshake c t ≡ true → 0 < length (t .scsi)
@@ -145,7 +145,7 @@ pub turn-rests : (c : Conditions) (s : Settling) → Resting c (s .transfer) →
 unfolding turn
 turn-rests c s r = rw (r .noMove, r .noHandshake)
 
--- what is not busy is at rest, and the other way round
+-- where nothing is possible, it is at rest
 pub idle-rests : (c : Conditions) (t : Transfer) → busy c t ≡ false → Resting c t
 idle-rests c t h = go (canMove c t) (canHandshake c t) refl refl h
   where
@@ -154,6 +154,7 @@ idle-rests c t h = go (canMove c t) (canHandshake c t) refl refl h
     go false true p q e = absurd (never (sym e))
     go false false p q e = record { noMove = p; noHandshake = q }
 
+-- at rest nothing is possible
 pub rests-idle : (c : Conditions) (t : Transfer) → Resting c t → busy c t ≡ false
 rests-idle c t r = rw (r .noMove, r .noHandshake)
 
@@ -214,7 +215,7 @@ measure-small c t a b = go (c .outbound) (c .synchronous) (t .ack) refl refl ref
 pub settling-rests : (c : Conditions) (s : Settling) → length (s .transfer .scsi) ≤ 8 → s .transfer .offset ≤ 8 → Resting c ((settle c turns s) .transfer)
 settling-rests c s a b = settle-reaches c turns s (measure-small c (s .transfer) a b)
 
--- the SCSI FIFO never holds more than 8: not after a move, nor after a handshake
+-- the SCSI FIFO holds at most 8 after a move
 pub move-full : (c : Conditions) (s : Settling) → canMove c (s .transfer) ≡ true → length (s .transfer .scsi) ≤ 8 → length ((move c s) .transfer .scsi) ≤ 8
 unfolding move
 move-full c s h x = go (c .outbound) refl
@@ -223,6 +224,7 @@ move-full c s h x = go (c .outbound) refl
     go true o = rw o (simp (length-append, length-take) (omega (arith, move-outbound c (s .transfer) o h)))
     go false o = rw o (simp length-drop (omega arith))
 
+-- nor after a handshake
 pub handshake-full : (c : Conditions) (s : Settling) → canHandshake c (s .transfer) ≡ true → length (s .transfer .scsi) ≤ 8 → length ((handshake c s) .transfer .scsi) ≤ 8
 unfolding handshake
 handshake-full c s h x = go (c .outbound) (c .synchronous) refl refl
