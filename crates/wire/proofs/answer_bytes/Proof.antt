@@ -20,9 +20,14 @@ returns c =
     let start = c .before .before .before .before .before .before in
     let a = start .args .a in
     let high : a .value / 256 % 256 ≡ a .value / 256 = search needs in
-    let low = and-mask (a .value) 8 in
-    let sent = elements-all 8 (a .sent) (eight start) in
-    cc
+    rw (
+      c .before .before .before .before .code-byte .ensures,
+      c .before .before .before .moves-byte .ensures,
+      high,
+      and-mask (a .value) 8,
+      c .offset-byte .ensures,
+      elements-all 8 (a .sent) (eight start),
+    )
 
 pub answer-bytes-spec : {M : Type 1} → statement M
 answer-bytes-spec =

@@ -11,8 +11,7 @@ four : tie.Need-returns
 unfolding decode
 four c =
     let l = c .before .before .before .before .before .before .before .before .args .bytes .now in
-    rw (eq-eqb (length l) 4 (omega arith), ← and-mask (getD l 0 0) 5, ← c .before .payload .ensures)
-    (c .fields .ensures)
+    rw (eq-eqb (length l) 4 (omega arith), ← and-mask (getD l 0 0) 5) (rw (c .before .payload .ensures) at (c .fields .ensures))
 
 other : tie.Need-returns-2
 unfolding decode

@@ -12,8 +12,19 @@ cast-byte c = record { fits = mask-lt (c .args .p / 1024) 8 }
 returns : tie.Need-returns
 unfolding linesOf
 returns c =
-    let byte = field-and (c .before .before .before .before .before .before .before .before .before .before .args .p) 10 8 in
-    cc
+    rw (
+      field-and (c .before .before .before .before .before .before .before .before .before .before .args .p) 10 8,
+      c .before .before .before .before .before .before .before .before .before .bit-of .ensures,
+      c .before .before .before .before .before .before .before .before .bit-of2 .ensures,
+      c .before .before .before .before .before .before .before .bit-of3 .ensures,
+      c .before .before .before .before .before .before .bit-of4 .ensures,
+      c .before .before .before .before .before .bit-of5 .ensures,
+      c .before .before .before .before .bit-of6 .ensures,
+      c .before .before .before .bit-of7 .ensures,
+      c .before .before .bit-of8 .ensures,
+      c .before .bit-of9 .ensures,
+      c .bit-of10 .ensures,
+    )
 
 pub lines-of-spec : {M : Type 1} → statement M
 lines-of-spec =
