@@ -4,6 +4,7 @@ pub mod Marked
 pub mod Ranges
 pub mod Rest
 pub mod Settling
+pub mod Still
 pub mod Refusals
 pub mod Beliefs
 pub mod Effects

@@ -3,92 +3,98 @@
 use mathlib.Core.Path.{_≡_, refl, sym, _∙_}
 use mathlib.Core.Bool.{Bool, true, false, not, _&&_, _||_, cond}
 use mathlib.Core.List.{List, [], _∷_, _++_}
-use Prim.Native.Nat.{ℕ, zero, suc, _+_, _-_, _/_, _%_, _<_, _≤_, min}
+use Prim.Native.Nat.{ℕ, zero, suc, _+_, _-_, _/_, _%_, _<_, _≤_}
 use native.Mathlib.Omega.{arith}
 use lib.Dec.{ltb, leb, eqb}
 use lib.Bits.{or-lt}
 use lib.Pow.{areBytes}
 use lib.ListN.{length, take, drop, getD, set, replicate, length-append, length-take, length-drop, length-set, length-replicate}
 use borrow.Author.Tests.{ltb-true, ltb-false, leb-false}
+use Rattle.rules.specs.Numbers.{one, byteOf, padded}
 use Rattle.rules.specs.State.{State, Transfer, powerReset}
-use Rattle.rules.specs.Ranges.{TransferFits, RegistersFit, StackFits, InRange, Bytes, TransferBytes, RegistersBytes, InBytes}
+use Rattle.rules.specs.Seen.{atnSeen, bsySeen, selSeen, ioSeen, ackDriven, ackSeen, normal, limit, driving, dataDriven, parityDriven, dataSeen}
+use Rattle.rules.specs.Map.{readAt}
 use Rattle.rules.specs.Records.{linesOf, payloadLimit, offsetLimit, eventOf, wellFormed, fieldsOf, payloadOf, decode}
 use Rattle.rules.specs.Events.{writes, reads, valueOf, ticksOf, linesAfter, offered, asked, portWrite}
 use Rattle.rules.specs.Counter.{counterSize, counted, counterWith}
 use Rattle.rules.specs.Stack.{stackByte, stackPlace, pointerAfter, stackRead, stackWritten, pointed}
+use Rattle.rules.specs.Interrupts.{phasemis, instat, irq}
+use Rattle.rules.specs.Reads.{scsisigi, scsibus, sstat0, sstat1, sstat2, sstat3, sstat4, dmastat, idBytes, readOf, readMapped, valueRead}
+use Rattle.rules.specs.Codes.{noRoom, accessCode, refusedValue, isDone}
 use Rattle.rules.specs.StepA.{clrstcnt, clrch, rstfifo, automaticAck, registersA, hostA, counterA, transferA, stackA, identityA, afterA}
-use Rattle.rules.specs.Registers.{scsirateOf, scsiidOf}
-use Rattle.rules.specs.Seen.{atnSeen, bsySeen, selSeen, ioSeen, ackDriven, ackSeen, normal, limit, driving, dataDriven, parityDriven, dataSeen}
 use Rattle.rules.specs.StepB.{rstRises, synchronousReq, beyondLimit, registersB, quietAfter, edges, transferB, applied, edgesOf, afterB}
 use Rattle.rules.specs.StepC.{Settling, conditions, canMove, move, canHandshake, storedBy, handshake, settle, turns, started, settledC}
 use Rattle.rules.specs.StepD.{finished, afterD}
-use Rattle.rules.specs.Interrupts.{phasemis, instat, irq}
-use Rattle.rules.specs.Map.{readAt}
-use Rattle.rules.specs.Reads.{scsisigi, scsibus, sstat0, sstat1, sstat2, sstat3, sstat4, dmastat, idBytes, readOf, readMapped, valueRead}
-use Rattle.rules.specs.Codes.{numberOf, absent, testValue, shut, noRoom, noBytes, check, first, accessCode, refusedValue, isDone}
 use Rattle.rules.specs.Answers.{Stepped, controlDriven, answerOf, answerBytes}
 use Rattle.rules.specs.Step.{refused, done, access, stepEvent, stepDecoded, step, answer, after}
-use Rattle.rules.specs.Numbers.{one, byteOf, padded}
+use Rattle.rules.specs.Ranges.{TransferFits, RegistersFit, StackFits, InRange, Bytes, TransferBytes, RegistersBytes, InBytes}
+use Rattle.rules.specs.declared.registers.Scsirate.{Scsirate}
+use Rattle.rules.specs.declared.registers.Scsiid.{Scsiid}
+use Rattle.rules.specs.declared.registers.Registers.{Registers}
 use Rattle.rules.specs.declared.map.Register.{Register}
 use Rattle.rules.specs.declared.map.Mapped.{Mapped}
 use Rattle.rules.specs.declared.map.Mapped.the-variants.{Present, Missing}
-use Rattle.rules.specs.declared.codes.Code.{Code}
-use Rattle.rules.specs.declared.codes.Code.the-variants.{Done, Malformed, Absent, Shut, NoRoom, NoBytes, BeyondLimit, TestValue}
-use Rattle.rules.specs.declared.chip.Edges.{Edges}
-use Rattle.rules.specs.declared.chip.Conditions.{Conditions}
-use Rattle.rules.specs.declared.registers.Scsirate.{Scsirate}
-use Rattle.rules.specs.declared.registers.Scsiid.{Scsiid}
-use Rattle.rules.specs.declared.chip.Stack.{Stack}
 use Rattle.rules.specs.declared.map.Register.the-variants.{SCSISEQ, SXFRCTL0, SXFRCTL1, SCSISIGI, SCSISIGO, SCSIRATE, SELID, SCSIID, SCSIDAT, SCSIBUS, STCNT0, STCNT1, STCNT2, SSTAT0, CLRSINT0, SSTAT1, CLRSINT1, SSTAT2, SSTAT3, SCSITEST, SSTAT4, CLRSERR, SIMODE0, SIMODE1, DMACNTRL0, DMACNTRL1, DMASTAT, FIFOSTAT, DMADATA, BRSTCNTRL, REV, STACK, TEST, ID}
-use Rattle.rules.specs.declared.registers.Registers.{Registers}
 use Rattle.rules.specs.declared.records.Lines.{Lines}
 use Rattle.rules.specs.declared.records.Event.{Event}
 use Rattle.rules.specs.declared.records.Event.the-variants.{PowerReset, Write, Read, WordWrite, WordRead, Drive, Ticks}
 use Rattle.rules.specs.declared.records.Decoded.{Decoded}
 use Rattle.rules.specs.declared.records.Decoded.the-variants.{Well, Ill}
+use Rattle.rules.specs.declared.codes.Code.{Code}
+use Rattle.rules.specs.declared.codes.Code.the-variants.{Done, Malformed, Absent, Shut, NoRoom, NoBytes, BeyondLimit, TestValue}
+use Rattle.rules.specs.declared.chip.Edges.{Edges}
+use Rattle.rules.specs.declared.chip.Conditions.{Conditions}
+use Rattle.rules.specs.declared.chip.Stack.{Stack}
 use Rattle.rules.proofs.Logic.{never, left-true, right-true, cond-case}
 use Rattle.rules.proofs.Refusals.{eight-codes, done-passed}
+use Rattle.rules.proofs.Rest.{move-inbound, move-full, handshake-full, Report, settling-reports}
 use Rattle.rules.proofs.Settling.{settle-keeps}
-use Rattle.rules.proofs.Rest.{move-outbound, move-inbound, handshake-inbound, Report, settling-reports}
 
--- bytes stay bytes in every list that the rules make of them
+-- bytes one after the other are bytes
 pub bytes-append : (l k : List ℕ) → Bytes l → Bytes k → Bytes (l ++ k)
 bytes-append [] k p q = q
 bytes-append (b ∷ l) k p q = (p .0, bytes-append l k (p .1) q)
 
+-- the first of some bytes are bytes
 pub bytes-take : (n : ℕ) (l : List ℕ) → Bytes l → Bytes (take n l)
 bytes-take zero l p = tt
 bytes-take (suc n) [] p = tt
 bytes-take (suc n) (b ∷ l) p = (p .0, bytes-take n l (p .1))
 
+-- and so are those after them
 pub bytes-drop : (n : ℕ) (l : List ℕ) → Bytes l → Bytes (drop n l)
 bytes-drop zero l p = p
 bytes-drop (suc n) [] p = tt
 bytes-drop (suc n) (b ∷ l) p = bytes-drop n l (p .1)
 
+-- what stands at a place among bytes is a byte
 pub bytes-at : (l : List ℕ) (k : ℕ) → Bytes l → getD l k 0 < 256
 bytes-at [] k p = omega arith
 bytes-at (b ∷ l) zero p = p .0
 bytes-at (b ∷ l) (suc k) p = bytes-at l k (p .1)
 
+-- bytes with a byte stored among them are bytes
 pub bytes-set : (l : List ℕ) (k v : ℕ) → v < 256 → Bytes l → Bytes (set l k v)
 bytes-set [] k v h p = tt
 bytes-set (b ∷ l) zero v h p = (h, p .1)
 bytes-set (b ∷ l) (suc k) v h p = (p .0, bytes-set l k v h (p .1))
 
+-- zeros are bytes
 pub bytes-zeros : (n : ℕ) → Bytes (replicate n 0)
 bytes-zeros zero = tt
 bytes-zeros (suc n) = (omega arith, bytes-zeros n)
 
+-- a list whose test passes is a list of bytes
 pub bytes-computed : (l : List ℕ) → areBytes l ≡ true → Bytes l
 bytes-computed [] h = tt
 bytes-computed (b ∷ l) h = (ltb-true b 256 (left-true (ltb b 256) (areBytes l) h), bytes-computed l (right-true (ltb b 256) (areBytes l) h))
 
--- eight bits are a byte
+-- a bit is at most 1
 pub one-fits : (b : Bool) → one b ≤ 1
 one-fits true = omega arith
 one-fits false = omega arith
 
+-- eight bits packed are below 256
 pub byte-fits : (b7 b6 b5 b4 b3 b2 b1 b0 : Bool) → byteOf b7 b6 b5 b4 b3 b2 b1 b0 < 256
 byte-fits b7 b6 b5 b4 b3 b2 b1 b0 =
     omega (arith, one-fits b7, one-fits b6, one-fits b5, one-fits b4, one-fits b3, one-fits b2, one-fits b1, one-fits b0)
@@ -103,6 +109,7 @@ EventFits WordRead = Unit {0}
 EventFits (Drive lines) = lines .byte < 256
 EventFits (Ticks n) = n < 16777216
 
+-- what is decoded is in range
 abbrev pub DecodedFits : Decoded → Type 0
 DecodedFits (Well e) = EventFits e
 DecodedFits Ill = Unit {0}
@@ -162,7 +169,7 @@ lines-fit (Ticks n) l f h = h
 offered-fits : (e : Event) → EventFits e → Bytes (offered e)
 unfolding offered
 offered-fits PowerReset f = tt
-offered-fits (Write offset value) f = cond-case Bytes (eqb offset 0x16) (value ∷ []) [] (λ h. (f .1, tt)) (λ h. tt)
+offered-fits (Write offset value) f = cond-case Bytes (eqb offset 0x16) _ _ (λ h. (f .1, tt)) (λ h. tt)
 offered-fits (Read offset) f = tt
 offered-fits (WordWrite word) f = (omega arith, (omega arith, tt))
 offered-fits WordRead f = tt
@@ -174,10 +181,10 @@ registers-a : (r : Registers) (e : Event) → RegistersFit r → RegistersFit (r
 unfolding registersA
 registers-a r e i =
     record {
-      sxfr = cond-case (λ (x : Scsirate). x .sxfr < 8) (writes e SCSIRATE) (scsirateOf (valueOf e)) (r .scsirate) (λ h. omega arith) (λ h. i .sxfr);
-      sofs = cond-case (λ (x : Scsirate). x .sofs < 16) (writes e SCSIRATE) (scsirateOf (valueOf e)) (r .scsirate) (λ h. omega arith) (λ h. i .sofs);
-      oid = cond-case (λ (x : Scsiid). x .oid < 8) (writes e SCSIID) (scsiidOf (valueOf e)) (r .scsiid) (λ h. omega arith) (λ h. i .oid);
-      tid = cond-case (λ (x : Scsiid). x .tid < 8) (writes e SCSIID) (scsiidOf (valueOf e)) (r .scsiid) (λ h. omega arith) (λ h. i .tid);
+      sxfr = cond-case (λ (x : Scsirate). x .sxfr < 8) (writes e SCSIRATE) _ _ (λ h. omega arith) (λ h. i .sxfr);
+      sofs = cond-case (λ (x : Scsirate). x .sofs < 16) (writes e SCSIRATE) _ _ (λ h. omega arith) (λ h. i .sofs);
+      oid = cond-case (λ (x : Scsiid). x .oid < 8) (writes e SCSIID) _ _ (λ h. omega arith) (λ h. i .oid);
+      tid = cond-case (λ (x : Scsiid). x .tid < 8) (writes e SCSIID) _ _ (λ h. omega arith) (λ h. i .tid);
     }
 
 registers-bytes-a : (r : Registers) (e : Event) → EventFits e → RegistersBytes r → RegistersBytes (registersA r e)
@@ -185,28 +192,22 @@ unfolding registersA
 registers-bytes-a r e f i =
     let v = value-of-fits e f in
     record {
-      scsidat = cond-case (λ n. n < 256) (writes e SCSIDAT) (valueOf e) (r .scsidat) (λ h. v) (λ h. i .scsidat);
-      brstcntrl = cond-case (λ n. n < 256) (writes e BRSTCNTRL) (valueOf e) (r .brstcntrl) (λ h. v) (λ h. i .brstcntrl);
+      scsidat = cond-case (λ n. n < 256) (writes e SCSIDAT) _ _ (λ h. v) (λ h. i .scsidat);
+      brstcntrl = cond-case (λ n. n < 256) (writes e BRSTCNTRL) _ _ (λ h. v) (λ h. i .brstcntrl);
     }
 
 -- the host FIFO: the checks have left room for the whole access
 host-a : (e : Event) (host : List ℕ) → length host + length (offered e) ≤ 128 → length host ≤ 128 → length (hostA e host) ≤ 128
 unfolding hostA
-host-a e host room h = go (rstfifo e) (portWrite e)
-  where
-    go : (t w : Bool) → length (cond t [] (cond w (host ++ offered e) (drop (asked e) host))) ≤ 128
-    go true w = omega arith
-    go false true = simp length-append room
-    go false false = simp length-drop (omega arith)
+host-a e host room h =
+    cond-case (λ (l : List ℕ). length l ≤ 128) (rstfifo e) _ _ (λ t. omega arith)
+    (λ t. cond-case (λ (l : List ℕ). length l ≤ 128) (portWrite e) _ _ (λ w. simp length-append room) (λ w. simp length-drop (omega arith)))
 
 host-bytes-a : (e : Event) (host : List ℕ) → EventFits e → Bytes host → Bytes (hostA e host)
 unfolding hostA
-host-bytes-a e host f h = go (rstfifo e) (portWrite e)
-  where
-    go : (t w : Bool) → Bytes (cond t [] (cond w (host ++ offered e) (drop (asked e) host)))
-    go true w = tt
-    go false true = bytes-append host (offered e) h (offered-fits e f)
-    go false false = bytes-drop (asked e) host h
+host-bytes-a e host f h =
+    cond-case Bytes (rstfifo e) _ _ (λ t. tt)
+    (λ t. cond-case Bytes (portWrite e) _ _ (λ w. bytes-append host (offered e) h (offered-fits e f)) (λ w. bytes-drop (asked e) host h))
 
 -- one ACK more is in range, and so is a counter with one of its bytes written
 pub counted-fits : (n : ℕ) → counted n < counterSize
@@ -233,9 +234,9 @@ unfolding transferA
 transfer-a acked t e f room i =
     record {
       host = host-a e (t .host) room (i .host);
-      scsi = cond-case (λ (l : List ℕ). length l ≤ 8) (clrch e) [] (t .scsi) (λ h. omega arith) (λ h. i .scsi);
+      scsi = cond-case (λ (l : List ℕ). length l ≤ 8) (clrch e) _ _ (λ h. omega arith) (λ h. i .scsi);
       counter = counter-a acked e (t .counter) f (i .counter);
-      offset = cond-case (λ n. n ≤ 8) (clrch e) 0 (t .offset) (λ h. omega arith) (λ h. i .offset);
+      offset = cond-case (λ n. n ≤ 8) (clrch e) _ _ (λ h. omega arith) (λ h. i .offset);
     }
 
 transfer-bytes-a : (acked : Bool) (t : Transfer) (e : Event) → EventFits e → TransferBytes t → TransferBytes (transferA acked t e)
@@ -244,7 +245,7 @@ transfer-bytes-a acked t e f i =
     record {
       last = i .last;
       host = host-bytes-a e (t .host) f (i .host);
-      scsi = cond-case Bytes (clrch e) [] (t .scsi) (λ h. tt) (λ h. i .scsi);
+      scsi = cond-case Bytes (clrch e) _ _ (λ h. tt) (λ h. i .scsi);
     }
 
 pointer-fits : (wide : Bool) (k : Stack) → pointerAfter wide k < 32
@@ -274,7 +275,7 @@ stack-bytes-a wide k e f i = go (writes e STACK) (reads e STACK) (writes e DMACN
 
 identity-a : (n : ℕ) (e : Event) → n < 32 → identityA n e < 32
 unfolding identityA
-identity-a n e h = cond-case (λ m. m < 32) (reads e ID) ((n + 1) % 32) n (λ q. omega arith) (λ q. h)
+identity-a n e h = cond-case (λ m. m < 32) (reads e ID) _ _ (λ q. omega arith) (λ q. h)
 
 -- after A: nothing is out of range where the port has room
 after-a : (s : State) (e : Event) → EventFits e → length (s .transfer .host) + length (offered e) ≤ 128 → InRange s → InRange (afterA s e)
@@ -308,6 +309,7 @@ data-driven-fits r l t i j = go (driving r l t) (normal r)
     go true false = i .scsidat
     go false n = omega arith
 
+-- the data seen, driven by others or by the chip, is a byte
 pub data-seen-fits : (r : Registers) (l : Lines) (t : Transfer) → l .byte < 256 → RegistersBytes r → TransferBytes t → dataSeen r l t < 256
 unfolding dataSeen
 data-seen-fits r l t h i j = or-lt 8 (l .byte) (dataDriven r l t) h (data-driven-fits r l t i j)
@@ -328,7 +330,7 @@ stored-room false a i true e = sym e
 offset-room : (last now : State) (ticks : ℕ) → (edges last now ticks) .counted ≡ true → now .transfer .offset < 8
 unfolding edges beyondLimit limit
 offset-room last now ticks e =
-    omega (arith, leb-false (limit (now .registers)) (now .transfer .offset) (counted-room (synchronousReq last now) (leb (limit (now .registers)) (now .transfer .offset)) (ioSeen (now .registers) (now .lines) && leb 8 (length (now .transfer .scsi))) e))
+    omega (arith, leb-false (limit (now .registers)) (now .transfer .offset) (counted-room (synchronousReq last now) (leb (limit (now .registers)) (now .transfer .offset)) _ e))
 
 scsi-room : (last now : State) (ticks : ℕ) → (edges last now ticks) .stored ≡ true → length (now .transfer .scsi) < 8
 unfolding edges beyondLimit
@@ -338,11 +340,9 @@ scsi-room last now ticks e =
 -- B, by component
 quiet-b : (last now : State) (ticks : ℕ) → (edges last now ticks) .quiet ≤ 8
 unfolding edges quietAfter
-quiet-b last now ticks = go (bsySeen (registersB (rstRises last now) false false (now .registers)) (now .lines) || selSeen (registersB (rstRises last now) false false (now .registers)) (now .lines))
-  where
-    go : (b : Bool) → cond b 0 (min 8 (now .quiet + ticks)) ≤ 8
-    go true = omega arith
-    go false = omega arith
+quiet-b last now ticks =
+    let r = registersB (rstRises last now) false false (now .registers) in
+    cond-case (λ n. n ≤ 8) (bsySeen r (now .lines) || selSeen r (now .lines)) _ _ (λ h. omega arith) (λ h. omega arith)
 
 registers-b : (reset bad free : Bool) (r : Registers) → RegistersFit r → RegistersFit (registersB reset bad free r)
 unfolding registersB
@@ -354,11 +354,11 @@ unfolding transferB
 transfer-b g byte t up room i =
     record {
       host = i .host;
-      scsi = cond-case (λ (l : List ℕ). length l ≤ 8) (g .stored) (t .scsi ++ (byte ∷ [])) (t .scsi) (λ e. simp length-append (omega (arith, room e))) (λ e. i .scsi);
+      scsi = cond-case (λ (l : List ℕ). length l ≤ 8) (g .stored) _ _ (λ e. simp length-append (omega (arith, room e))) (λ e. i .scsi);
       counter = i .counter;
       offset =
-          cond-case (λ n. n ≤ 8) (g .rstrises || g .free) 0 (cond (g .counted) (t .offset + 1) (t .offset)) (λ e. omega arith)
-          (λ e. cond-case (λ n. n ≤ 8) (g .counted) (t .offset + 1) (t .offset) (λ q. omega (arith, up q)) (λ q. i .offset));
+          cond-case (λ n. n ≤ 8) (g .rstrises || g .free) _ _ (λ e. omega arith)
+          (λ e. cond-case (λ n. n ≤ 8) (g .counted) _ _ (λ q. omega (arith, up q)) (λ q. i .offset));
     }
 
 transfer-bytes-b : (g : Edges) (byte : ℕ) (t : Transfer) → byte < 256 → TransferBytes t → TransferBytes (transferB g byte t)
@@ -367,7 +367,7 @@ transfer-bytes-b g byte t h i =
     record {
       last = i .last;
       host = i .host;
-      scsi = cond-case Bytes (g .stored) (t .scsi ++ (byte ∷ [])) (t .scsi) (λ e. bytes-append (t .scsi) (byte ∷ []) (i .scsi) (h, tt)) (λ e. i .scsi);
+      scsi = cond-case Bytes (g .stored) _ _ (λ e. bytes-append (t .scsi) (byte ∷ []) (i .scsi) (h, tt)) (λ e. i .scsi);
     }
 
 applied-fits : (last now : State) (ticks : ℕ) → InRange now → InRange (applied (edges last now ticks) last now)
@@ -406,43 +406,23 @@ bytes-after-b s e i =
 module _ (c : Conditions) (s : Settling) where
   fits-move : canMove c (s .transfer) ≡ true → TransferFits (s .transfer) → TransferFits ((move c s) .transfer)
   unfolding move
-  fits-move h i = go (c .outbound) refl
+  fits-move h i = record { host = host (c .outbound) refl; scsi = move-full c s h (i .scsi); counter = i .counter; offset = i .offset }
     where
-      go : (o : Bool) → c .outbound ≡ o → TransferFits ((move c s) .transfer)
-      go true o =
-          let e = move-outbound c (s .transfer) o h in
-          let y = i .host in
-          record {
-            host = rw o (simp length-drop (omega arith));
-            scsi = rw o (simp (length-append, length-take) (omega arith));
-            counter = i .counter;
-            offset = i .offset;
-          }
-      go false o =
-          let e = move-inbound c (s .transfer) o h in
-          let x = i .scsi in
-          record {
-            host = rw o (simp (length-append, length-take) (omega arith));
-            scsi = rw o (simp length-drop (omega arith));
-            counter = i .counter;
-            offset = i .offset;
-          }
+      host : (o : Bool) → c .outbound ≡ o → length ((move c s) .transfer .host) ≤ 128
+      host true o = rw o (simp length-drop (omega (arith, i .host)))
+      host false o = rw o (simp (length-append, length-take) (omega (arith, move-inbound c (s .transfer) o h)))
 
   fits-handshake : canHandshake c (s .transfer) ≡ true → TransferFits (s .transfer) → TransferFits ((handshake c s) .transfer)
   unfolding handshake
   fits-handshake h i =
       record {
         host = i .host;
-        scsi = scsi (c .outbound) (c .synchronous) refl refl;
+        scsi = handshake-full c s h (i .scsi);
         counter = counted-fits (s .transfer .counter);
-        offset = cond-case (λ n. n ≤ 8) (c .synchronous) (s .transfer .offset - 1) (s .transfer .offset) (λ y. omega (arith, i .offset)) (λ y. i .offset);
+        offset = cond-case (λ n. n ≤ 8) (c .synchronous) _ _ (λ y. omega (arith, i .offset)) (λ y. i .offset);
       }
-    where
-      scsi : (o y : Bool) → c .outbound ≡ o → c .synchronous ≡ y → length (cond o (drop 1 (s .transfer .scsi)) (s .transfer .scsi ++ cond y [] (c .byte ∷ []))) ≤ 8
-      scsi true y o e = simp length-drop (omega (arith, i .scsi))
-      scsi false true o e = simp length-append (omega (arith, i .scsi))
-      scsi false false o e = simp length-append (omega (arith, handshake-inbound c (s .transfer) o e h))
 
+-- settling keeps the data path in range, however many turns it takes
 pub fits-settle : (c : Conditions) (n : ℕ) (s : Settling) → TransferFits (s .transfer) → TransferFits ((settle c n s) .transfer)
 fits-settle c = settle-keeps (λ (s : Settling). TransferFits (s .transfer)) c (fits-move c) (fits-handshake c)
 
@@ -461,8 +441,8 @@ module _ (c : Conditions) (byte : c .byte < 256) (s : Settling) where
         transfer =
             record {
               last = i .last;
-              host = cond-case Bytes (c .outbound) (drop 1 (t .host)) (t .host ++ take 1 (t .scsi)) (λ o. bytes-drop 1 (t .host) (i .host)) (λ o. bytes-append (t .host) (take 1 (t .scsi)) (i .host) (bytes-take 1 (t .scsi) (i .scsi)));
-              scsi = cond-case Bytes (c .outbound) (t .scsi ++ take 1 (t .host)) (drop 1 (t .scsi)) (λ o. bytes-append (t .scsi) (take 1 (t .host)) (i .scsi) (bytes-take 1 (t .host) (i .host))) (λ o. bytes-drop 1 (t .scsi) (i .scsi));
+              host = cond-case Bytes (c .outbound) _ _ (λ o. bytes-drop 1 (t .host) (i .host)) (λ o. bytes-append (t .host) (take 1 (t .scsi)) (i .host) (bytes-take 1 (t .scsi) (i .scsi)));
+              scsi = cond-case Bytes (c .outbound) _ _ (λ o. bytes-append (t .scsi) (take 1 (t .host)) (i .scsi) (bytes-take 1 (t .host) (i .host))) (λ o. bytes-drop 1 (t .scsi) (i .scsi));
             };
         sent = f .sent;
       }
@@ -475,16 +455,17 @@ module _ (c : Conditions) (byte : c .byte < 256) (s : Settling) where
       record {
         transfer =
             record {
-              last = cond-case (λ n. n < 256) (c .outbound) (getD (t .scsi) 0 0) (t .last) (λ o. bytes-at (t .scsi) 0 (i .scsi)) (λ o. i .last);
+              last = cond-case (λ n. n < 256) (c .outbound) _ _ (λ o. bytes-at (t .scsi) 0 (i .scsi)) (λ o. i .last);
               host = i .host;
-              scsi = cond-case Bytes (c .outbound) (drop 1 (t .scsi)) (t .scsi ++ storedBy c) (λ o. bytes-drop 1 (t .scsi) (i .scsi)) (λ o. bytes-append (t .scsi) (storedBy c) (i .scsi) stored);
+              scsi = cond-case Bytes (c .outbound) _ _ (λ o. bytes-drop 1 (t .scsi) (i .scsi)) (λ o. bytes-append (t .scsi) (storedBy c) (i .scsi) stored);
             };
-        sent = cond-case Bytes (c .outbound) (s .sent ++ take 1 (t .scsi)) (s .sent) (λ o. bytes-append (s .sent) (take 1 (t .scsi)) (f .sent) (bytes-take 1 (t .scsi) (i .scsi))) (λ o. f .sent);
+        sent = cond-case Bytes (c .outbound) _ _ (λ o. bytes-append (s .sent) (take 1 (t .scsi)) (f .sent) (bytes-take 1 (t .scsi) (i .scsi))) (λ o. f .sent);
       }
     where
       stored : Bytes (storedBy c)
       stored = cond-case Bytes (c .synchronous) [] (c .byte ∷ []) (λ y. tt) (λ y. (byte, tt))
 
+-- settling keeps bytes bytes
 pub bytes-settle : (c : Conditions) → c .byte < 256 → (n : ℕ) (s : Settling) → SettlingBytes s → SettlingBytes (settle c n s)
 bytes-settle c byte = settle-keeps SettlingBytes c (bytes-move c byte) (bytes-handshake c byte)
 
@@ -493,15 +474,18 @@ pub conditions-byte : (s : State) → InBytes s → (conditions s) .byte < 256
 unfolding conditions
 conditions-byte s i = data-seen-fits (s .registers) (s .lines) (s .transfer) (i .lines) (i .registers) (i .transfer)
 
+-- the data path after C is in range
 pub settled-fits : (s : State) (e : Event) → InRange (afterB s e) → TransferFits ((settledC s e) .transfer)
 unfolding settledC started
 settled-fits s e i = fits-settle (conditions (afterB s e)) turns (started (afterB s e)) (i .transfer)
 
+-- the data path after C holds bytes, and what C sends is bytes
 pub settled-bytes : (s : State) (e : Event) → InBytes (afterB s e) → SettlingBytes (settledC s e)
 unfolding settledC started
 settled-bytes s e i =
     bytes-settle (conditions (afterB s e)) (conditions-byte (afterB s e) i) turns (started (afterB s e)) (record { transfer = i .transfer; sent = tt })
 
+-- C reports at most 16 moves, 8 ACKs and 8 bytes sent
 pub settled-reports : (s : State) (e : Event) → InRange (afterB s e) → Report (conditions (afterB s e)) (settledC s e)
 unfolding settledC
 settled-reports s e i =
@@ -519,6 +503,7 @@ after-d s e i =
       identity = i .identity;
     }
 
+-- and holds bytes
 pub bytes-after-d : (s : State) (e : Event) → InBytes (afterB s e) → InBytes (afterD s e)
 unfolding afterD finished
 bytes-after-d s e i =
@@ -623,6 +608,7 @@ power-reset-fits =
       identity = omega arith;
     }
 
+-- power reset holds bytes
 pub power-reset-bytes : InBytes powerReset
 unfolding powerReset
 power-reset-bytes =
@@ -654,7 +640,7 @@ refused-bytes : (s : State) (code : Code) (value : ℕ) → value < 65536 → In
 unfolding refused
 refused-bytes s code value h i = record { state = i; value = h; sent = tt }
 
--- an access that is done has room at the port
+-- a code that counts as done is Done
 is-done : (c : Code) → isDone c ≡ true → c ≡ Done
 is-done Done h = refl
 is-done Malformed h = absurd (never h)
@@ -665,15 +651,17 @@ is-done NoBytes h = absurd (never h)
 is-done BeyondLimit h = absurd (never h)
 is-done TestValue h = absurd (never h)
 
+-- the bytes that an access offers fit into the host FIFO where it is done
 pub port-room : (s : State) (e : Event) → isDone (accessCode s e) ≡ true → length (s .transfer .host) + length (offered e) ≤ 128
 unfolding noRoom
 port-room s e d =
     ltb-false 128 (length (s .transfer .host) + length (offered e)) (done-passed s e (is-done (accessCode s e) d) .room)
 
--- an access that is done leaves the state in range after A, and after B
+-- an access that is done leaves the state in range after A
 pub after-a-fits : (s : State) (e : Event) → EventFits e → isDone (accessCode s e) ≡ true → InRange s → InRange (afterA s e)
 after-a-fits s e f d i = after-a s e f (port-room s e d) i
 
+-- and after B
 pub after-b-fits : (s : State) (e : Event) → EventFits e → isDone (accessCode s e) ≡ true → InRange s → InRange (afterB s e)
 after-b-fits s e f d i = after-b s e (after-a-fits s e f d i)
 
@@ -693,13 +681,13 @@ done-bytes s e f i j =
 access-fits : (s : State) (e : Event) → EventFits e → InRange s → StepFits (access s e)
 unfolding access
 access-fits s e f i =
-    cond-case StepFits (isDone (accessCode s e)) (done s e) (refused s (accessCode s e) (refusedValue e)) (λ d. done-fits s e f d i)
+    cond-case StepFits (isDone (accessCode s e)) _ _ (λ d. done-fits s e f d i)
     (λ d. refused-fits s (accessCode s e) (refusedValue e) i)
 
 access-bytes : (s : State) (e : Event) → EventFits e → InRange s → InBytes s → StepBytes (access s e)
 unfolding access
 access-bytes s e f i j =
-    cond-case StepBytes (isDone (accessCode s e)) (done s e) (refused s (accessCode s e) (refusedValue e)) (λ d. done-bytes s e f i j)
+    cond-case StepBytes (isDone (accessCode s e)) _ _ (λ d. done-bytes s e f i j)
     (λ d. refused-bytes s (accessCode s e) (refusedValue e) (refused-value-fits e) j)
 
 event-step-fits : (s : State) (e : Event) → EventFits e → InRange s → StepFits (stepEvent s e)
@@ -737,6 +725,7 @@ pub step-fits : (s : State) (bytes : List ℕ) → InRange s → StepFits (step 
 unfolding step
 step-fits s bytes i = decoded-step-fits s (decode bytes) (decode-fits bytes) i
 
+-- every record leaves bytes where bytes are stored, sends bytes, and gives a value of 16 bits
 pub step-bytes : (s : State) (bytes : List ℕ) → InRange s → InBytes s → StepBytes (step s bytes)
 unfolding step
 step-bytes s bytes i j = decoded-step-bytes s (decode bytes) (decode-fits bytes) i j
@@ -749,6 +738,37 @@ after-fits s (bytes ∷ more) i = after-fits ((step s bytes) .state) more (step-
 -- FROM POWER RESET, AFTER ANY LIST OF RECORDS, THE STATE IS IN RANGE
 pub always-in-range : (records : List (List ℕ)) → InRange (after powerReset records)
 always-in-range records = after-fits powerReset records power-reset-fits
+
+-- the bounds, in document 01's own numbers
+pub record Bounded (s : State) : Type 0 where
+  pub offset : s .transfer .offset ≤ 8
+  pub scsi : length (s .transfer .scsi) ≤ 8
+  pub host : length (s .transfer .host) ≤ 128
+  pub counter : s .transfer .counter < 16777216
+  pub pointer : s .stack .pointer < 32
+
+-- FROM POWER RESET, AFTER ANY LIST OF RECORDS: offset and SCSI FIFO at most 8, host FIFO at most 128, counter below
+-- 16,777,216, pointer below 32
+pub always-bounded : (records : List (List ℕ)) → Bounded (after powerReset records)
+always-bounded records =
+    let i = always-in-range records in
+    record {
+      offset = i .transfer .offset;
+      scsi = i .transfer .scsi;
+      host = i .transfer .host;
+      counter = i .transfer .counter;
+      pointer = i .stack .pointer;
+    }
+
+-- and what is stored as a byte is one
+pub after-bytes : (s : State) (records : List (List ℕ)) → InRange s → InBytes s → InBytes (after s records)
+after-bytes s [] i j = j
+after-bytes s (bytes ∷ more) i j =
+    after-bytes ((step s bytes) .state) more (step-fits s bytes i .state) (step-bytes s bytes i j .state)
+
+-- from power reset, after any list of records, what is stored as a byte is one
+pub always-in-bytes : (records : List (List ℕ)) → InBytes (after powerReset records)
+always-in-bytes records = after-bytes powerReset records power-reset-fits power-reset-bytes
 
 -- an answer is sixteen bytes
 pub record AnswerFits (l : List ℕ) : Type 0 where
@@ -806,3 +826,8 @@ stepped-answer-fits r f g =
 pub answer-fits : (s : State) (bytes : List ℕ) → InRange s → InBytes s → AnswerFits (answer s bytes)
 unfolding answer
 answer-fits s bytes i j = stepped-answer-fits (step s bytes) (step-fits s bytes i) (step-bytes s bytes i j)
+
+-- FROM POWER RESET, AFTER ANY LIST OF RECORDS, THE NEXT ANSWER IS SIXTEEN BYTES
+pub always-answers : (records : List (List ℕ)) (bytes : List ℕ) → AnswerFits (answer (after powerReset records) bytes)
+always-answers records bytes =
+    answer-fits (after powerReset records) bytes (always-in-range records) (always-in-bytes records)

@@ -76,14 +76,14 @@ module _ (c : Conditions) (t : Transfer) where
   pub synchronous-offset : c .synchronous ≡ true → canHandshake c t ≡ true → 0 < t .offset
   unfolding canSynchronous
   synchronous-offset y h =
-      ltb-true 0 (t .offset) (left-true (ltb 0 (t .offset)) (cond (c .outbound) (ltb 0 (length (t .scsi))) (ltb (length (t .scsi)) (t .offset))) (handshake-synchronous y h))
+      ltb-true 0 (t .offset) (left-true (ltb 0 (t .offset)) _ (handshake-synchronous y h))
 
   -- an asynchronous handshake finds automatic ACK off
   pub asynchronous-ack : c .synchronous ≡ false → canHandshake c t ≡ true → t .ack ≡ false
   unfolding canAsynchronous
   asynchronous-ack y h =
       let e = handshake-asynchronous y h in
-      not-true (t .ack) (right-true (c .req) (not (t .ack)) (left-true (c .req && not (t .ack)) (cond (c .outbound) (ltb 0 (length (t .scsi))) (ltb (length (t .scsi)) 8)) e))
+      not-true (t .ack) (right-true (c .req) (not (t .ack)) (left-true (c .req && not (t .ack)) _ e))
 
   -- an outbound handshake has a byte to send
   pub handshake-outbound : c .outbound ≡ true → canHandshake c t ≡ true → 0 < length (t .scsi)
@@ -145,7 +145,7 @@ pub turn-rests : (c : Conditions) (s : Settling) → Resting c (s .transfer) →
 unfolding turn
 turn-rests c s r = rw (r .noMove, r .noHandshake)
 
--- what is not busy is at rest, and the other way round
+-- where nothing is possible, it is at rest
 pub idle-rests : (c : Conditions) (t : Transfer) → busy c t ≡ false → Resting c t
 idle-rests c t h = go (canMove c t) (canHandshake c t) refl refl h
   where
@@ -154,6 +154,7 @@ idle-rests c t h = go (canMove c t) (canHandshake c t) refl refl h
     go false true p q e = absurd (never (sym e))
     go false false p q e = record { noMove = p; noHandshake = q }
 
+-- at rest nothing is possible
 pub rests-idle : (c : Conditions) (t : Transfer) → Resting c t → busy c t ≡ false
 rests-idle c t r = rw (r .noMove, r .noHandshake)
 
@@ -214,94 +215,128 @@ measure-small c t a b = go (c .outbound) (c .synchronous) (t .ack) refl refl ref
 pub settling-rests : (c : Conditions) (s : Settling) → length (s .transfer .scsi) ≤ 8 → s .transfer .offset ≤ 8 → Resting c ((settle c turns s) .transfer)
 settling-rests c s a b = settle-reaches c turns s (measure-small c (s .transfer) a b)
 
--- what is counted while settling from n bytes in the SCSI FIFO, with a handshakes possible: each move brings one byte, each
--- ACK sends one outbound or stores at most one inbound
-pub record Counts (c : Conditions) (n a : ℕ) (s : Settling) : Type 0 where
-  pub scsi : length (s .transfer .scsi) ≤ 8
+-- the SCSI FIFO holds at most 8 after a move
+pub move-full : (c : Conditions) (s : Settling) → canMove c (s .transfer) ≡ true → length (s .transfer .scsi) ≤ 8 → length ((move c s) .transfer .scsi) ≤ 8
+unfolding move
+move-full c s h x = go (c .outbound) refl
+  where
+    go : (o : Bool) → c .outbound ≡ o → length ((move c s) .transfer .scsi) ≤ 8
+    go true o = rw o (simp (length-append, length-take) (omega (arith, move-outbound c (s .transfer) o h)))
+    go false o = rw o (simp length-drop (omega arith))
+
+-- nor after a handshake
+pub handshake-full : (c : Conditions) (s : Settling) → canHandshake c (s .transfer) ≡ true → length (s .transfer .scsi) ≤ 8 → length ((handshake c s) .transfer .scsi) ≤ 8
+unfolding handshake
+handshake-full c s h x = go (c .outbound) (c .synchronous) refl refl
+  where
+    go : (o y : Bool) → c .outbound ≡ o → c .synchronous ≡ y → length ((handshake c s) .transfer .scsi) ≤ 8
+    go true y o e = rw o (simp length-drop (omega arith))
+    go false true o e = rw (o, e) (simp length-append (omega arith))
+    go false false o e = rw (o, e) (simp length-append (omega (arith, handshake-inbound c (s .transfer) o e h)))
+
+-- the bytes that ACKs have stored: inbound, one for each ACK that is asynchronous; a synchronous one was stored at its REQ
+abbrev pub storedByAcks : Conditions → ℕ → ℕ
+storedByAcks c acks = cond (c .synchronous) 0 acks
+
+-- what is counted while settling, from h bytes in the host FIFO and n in the SCSI FIFO with a handshakes possible: a move takes
+-- one byte over, an ACK outbound sends one, an ACK inbound sends none
+pub record Counts (c : Conditions) (h n a : ℕ) (s : Settling) : Type 0 where
+  pub full : length (s .transfer .scsi) ≤ 8
   pub acks : s .acks + acksLeft c (s .transfer) ≡ a
-  pub moves : cond (c .outbound) (s .moves + n ≡ length (s .transfer .scsi) + s .acks) (s .moves + length (s .transfer .scsi) ≤ n + s .acks)
+  pub host : cond (c .outbound) (length (s .transfer .host) + s .moves ≡ h) (length (s .transfer .host) ≡ h + s .moves)
+  pub scsi : cond (c .outbound) (length (s .transfer .scsi) + s .acks ≡ n + s .moves) (length (s .transfer .scsi) + s .moves ≡ n + storedByAcks c (s .acks))
   pub sent : cond (c .outbound) (length (s .sent) ≡ s .acks) (s .sent ≡ [])
 
-module _ (c : Conditions) (n a : ℕ) (s : Settling) where
-  counts-move : canMove c (s .transfer) ≡ true → Counts c n a s → Counts c n a (move c s)
+module _ (c : Conditions) (h n a : ℕ) (s : Settling) where
+  counts-move : canMove c (s .transfer) ≡ true → Counts c h n a s → Counts c h n a (move c s)
   unfolding move
-  counts-move h i = go (c .outbound) refl
+  counts-move can i = go (c .outbound) refl
     where
-      go : (o : Bool) → c .outbound ≡ o → Counts c n a (move c s)
+      go : (o : Bool) → c .outbound ≡ o → Counts c h n a (move c s)
       go true o =
-          let e = move-outbound c (s .transfer) o h in
-          let m : s .moves + n ≡ length (s .transfer .scsi) + s .acks = rw o at (i .moves) in
+          let e = move-outbound c (s .transfer) o can in
+          let p : length (s .transfer .host) + s .moves ≡ h = rw o at (i .host) in
+          let m : length (s .transfer .scsi) + s .acks ≡ n + s .moves = rw o at (i .scsi) in
           record {
-            scsi = rw o (simp (length-append, length-take) (omega arith));
+            full = move-full c s can (i .full);
             acks = i .acks;
-            moves = rw o (simp (length-append, length-take) (omega arith));
+            host = rw o (simp length-drop (omega arith));
+            scsi = rw o (simp (length-append, length-take) (omega arith));
             sent = i .sent;
           }
       go false o =
-          let e = move-inbound c (s .transfer) o h in
-          let m : s .moves + length (s .transfer .scsi) ≤ n + s .acks = rw o at (i .moves) in
-          let x = i .scsi in
+          let e = move-inbound c (s .transfer) o can in
+          let p : length (s .transfer .host) ≡ h + s .moves = rw o at (i .host) in
+          let m : length (s .transfer .scsi) + s .moves ≡ n + storedByAcks c (s .acks) = rw o at (i .scsi) in
           record {
-            scsi = rw o (simp length-drop (omega arith));
+            full = move-full c s can (i .full);
             acks = i .acks;
-            moves = rw o (simp length-drop (omega arith));
+            host = rw o (simp (length-append, length-take) (omega arith));
+            scsi = rw o (simp length-drop (omega arith));
             sent = i .sent;
           }
 
-  counts-handshake : canHandshake c (s .transfer) ≡ true → Counts c n a s → Counts c n a (handshake c s)
+  counts-handshake : canHandshake c (s .transfer) ≡ true → Counts c h n a s → Counts c h n a (handshake c s)
   unfolding handshake
-  counts-handshake h i = go (c .outbound) (c .synchronous) refl refl
+  counts-handshake can i =
+      record {
+        full = handshake-full c s can (i .full);
+        acks = acks (c .synchronous) refl;
+        host = i .host;
+        scsi = scsi (c .outbound) (c .synchronous) refl refl;
+        sent = sent (c .outbound) refl;
+      }
     where
-      x : length (s .transfer .scsi) ≤ 8
-      x = i .scsi
+      t : Settling
+      t = handshake c s
 
-      go : (o y : Bool) → c .outbound ≡ o → c .synchronous ≡ y → Counts c n a (handshake c s)
-      go true true o y =
-          let e = handshake-outbound c (s .transfer) o h in
-          let f = synchronous-offset c (s .transfer) y h in
+      acks : (y : Bool) → c .synchronous ≡ y → t .acks + acksLeft c (t .transfer) ≡ a
+      acks true y =
           let k : s .acks + s .transfer .offset ≡ a = rw y at (i .acks) in
-          let m : s .moves + n ≡ length (s .transfer .scsi) + s .acks = rw o at (i .moves) in
-          let l : length (s .sent) ≡ s .acks = rw o at (i .sent) in
-          record {
-            scsi = rw o (simp length-drop (omega (arith, x)));
-            acks = rw y (omega arith);
-            moves = rw o (simp length-drop (omega arith));
-            sent = rw o (simp (length-append, length-take) (omega arith));
-          }
-      go true false o y =
-          let e = handshake-outbound c (s .transfer) o h in
-          let k : s .acks + 1 ≡ a = rw (y, asynchronous-ack c (s .transfer) y h) at (i .acks) in
-          let m : s .moves + n ≡ length (s .transfer .scsi) + s .acks = rw o at (i .moves) in
-          let l : length (s .sent) ≡ s .acks = rw o at (i .sent) in
-          record {
-            scsi = rw o (simp length-drop (omega (arith, x)));
-            acks = rw y (omega arith);
-            moves = rw o (simp length-drop (omega arith));
-            sent = rw o (simp (length-append, length-take) (omega arith));
-          }
-      go false true o y =
-          let f = synchronous-offset c (s .transfer) y h in
-          let k : s .acks + s .transfer .offset ≡ a = rw y at (i .acks) in
-          let m : s .moves + length (s .transfer .scsi) ≤ n + s .acks = rw o at (i .moves) in
-          record {
-            scsi = rw (o, y) (simp length-append (omega (arith, x)));
-            acks = rw y (omega arith);
-            moves = rw (o, y) (simp length-append (omega arith));
-            sent = rw o (rw o at (i .sent));
-          }
-      go false false o y =
-          let e = handshake-inbound c (s .transfer) o y h in
-          let k : s .acks + 1 ≡ a = rw (y, asynchronous-ack c (s .transfer) y h) at (i .acks) in
-          let m : s .moves + length (s .transfer .scsi) ≤ n + s .acks = rw o at (i .moves) in
-          record {
-            scsi = rw (o, y) (simp length-append (omega arith));
-            acks = rw y (omega arith);
-            moves = rw (o, y) (simp length-append (omega arith));
-            sent = rw o (rw o at (i .sent));
-          }
+          rw y (omega (arith, synchronous-offset c (s .transfer) y can))
+      acks false y =
+          let k : s .acks + 1 ≡ a = rw (y, asynchronous-ack c (s .transfer) y can) at (i .acks) in
+          rw y (omega arith)
 
-counts-settle : (c : Conditions) (n a k : ℕ) (s : Settling) → Counts c n a s → Counts c n a (settle c k s)
-counts-settle c n a = settle-keeps (Counts c n a) c (counts-move c n a) (counts-handshake c n a)
+      scsi : (o y : Bool) → c .outbound ≡ o → c .synchronous ≡ y → cond (c .outbound) (length (t .transfer .scsi) + t .acks ≡ n + t .moves) (length (t .transfer .scsi) + t .moves ≡ n + storedByAcks c (t .acks))
+      scsi true y o e =
+          let m : length (s .transfer .scsi) + s .acks ≡ n + s .moves = rw o at (i .scsi) in
+          rw o (simp length-drop (omega (arith, handshake-outbound c (s .transfer) o can)))
+      scsi false true o e =
+          let m : length (s .transfer .scsi) + s .moves ≡ n + 0 = rw (o, e) at (i .scsi) in
+          rw (o, e) (simp length-append (omega arith))
+      scsi false false o e =
+          let m : length (s .transfer .scsi) + s .moves ≡ n + s .acks = rw (o, e) at (i .scsi) in
+          rw (o, e) (simp length-append (omega arith))
+
+      sent : (o : Bool) → c .outbound ≡ o → cond (c .outbound) (length (t .sent) ≡ t .acks) (t .sent ≡ [])
+      sent true o =
+          let l : length (s .sent) ≡ s .acks = rw o at (i .sent) in
+          rw o (simp (length-append, length-take) (omega (arith, handshake-outbound c (s .transfer) o can)))
+      sent false o = rw o (rw o at (i .sent))
+
+counts-settle : (c : Conditions) (h n a k : ℕ) (s : Settling) → Counts c h n a s → Counts c h n a (settle c k s)
+counts-settle c h n a = settle-keeps (Counts c h n a) c (counts-move c h n a) (counts-handshake c h n a)
+
+-- SETTLING LOSES AND MAKES NO BYTE: the FIFOs' counts follow from the moves and ACKs reported
+pub settling-counts : (c : Conditions) (k : ℕ) (s : State) → length (s .transfer .scsi) ≤ 8 → Counts c (length (s .transfer .host)) (length (s .transfer .scsi)) (acksLeft c (s .transfer)) (settle c k (started s))
+unfolding started
+settling-counts c k s x =
+    counts-settle c (length (s .transfer .host)) (length (s .transfer .scsi)) (acksLeft c (s .transfer)) k (started s)
+    (record { full = x; acks = zero-add _; host = host (c .outbound); scsi = scsi (c .outbound) (c .synchronous); sent = sent (c .outbound) })
+  where
+    host : (o : Bool) → cond o (length (s .transfer .host) + 0 ≡ length (s .transfer .host)) (length (s .transfer .host) ≡ length (s .transfer .host) + 0)
+    host true = omega arith
+    host false = omega arith
+
+    scsi : (o y : Bool) → cond o (length (s .transfer .scsi) + 0 ≡ length (s .transfer .scsi) + 0) (length (s .transfer .scsi) + 0 ≡ length (s .transfer .scsi) + cond y 0 0)
+    scsi true y = refl
+    scsi false true = refl
+    scsi false false = refl
+
+    sent : (o : Bool) → cond o (length ((started s) .sent) ≡ 0) ((started s) .sent ≡ [])
+    sent true = refl
+    sent false = refl
 
 -- what an event reports: "at most 16; ACKs at most 8"; a byte sent for each ACK outbound, and none inbound
 pub record Report (c : Conditions) (s : Settling) : Type 0 where
@@ -311,30 +346,40 @@ pub record Report (c : Conditions) (s : Settling) : Type 0 where
   pub sentOutbound : c .outbound ≡ true → length (s .sent) ≡ s .acks
   pub sentInbound : c .outbound ≡ false → s .sent ≡ []
 
-report : (c : Conditions) (n a : ℕ) (s : Settling) → n ≤ 8 → a ≤ 8 → Counts c n a s → Report c s
-report c n a s hn ha i = go (c .outbound) refl
+report : (c : Conditions) (h n a : ℕ) (s : Settling) → n ≤ 8 → a ≤ 8 → Counts c h n a s → Report c s
+report c h n a s hn ha i = go (c .outbound) (c .synchronous) refl refl
   where
-    go : (o : Bool) → c .outbound ≡ o → Report c s
-    go true o =
-        let m : s .moves + n ≡ length (s .transfer .scsi) + s .acks = rw o at (i .moves) in
+    k : s .acks ≤ 8
+    k = omega (arith, i .acks)
+
+    go : (o y : Bool) → c .outbound ≡ o → c .synchronous ≡ y → Report c s
+    go true y o e =
+        let m : length (s .transfer .scsi) + s .acks ≡ n + s .moves = rw o at (i .scsi) in
         let l : length (s .sent) ≡ s .acks = rw o at (i .sent) in
         record {
-          moves = omega (arith, i .acks, i .scsi);
-          acks = omega (arith, i .acks);
-          sent = omega (arith, i .acks);
-          sentOutbound = λ e. l;
-          sentInbound = λ e. absurd (never (sym e ∙ o));
+          moves = omega (arith, k, i .full);
+          acks = k;
+          sent = omega (arith, k);
+          sentOutbound = λ q. l;
+          sentInbound = λ q. absurd (never (sym q ∙ o));
         }
-    go false o =
-        let m : s .moves + length (s .transfer .scsi) ≤ n + s .acks = rw o at (i .moves) in
+    go false y o e =
         let l : s .sent ≡ [] = rw o at (i .sent) in
         record {
-          moves = omega (arith, i .acks);
-          acks = omega (arith, i .acks);
+          moves = moves y e;
+          acks = k;
           sent = rw l (omega arith);
-          sentOutbound = λ e. absurd (never (sym o ∙ e));
-          sentInbound = λ e. l;
+          sentOutbound = λ q. absurd (never (sym o ∙ q));
+          sentInbound = λ q. l;
         }
+      where
+        moves : (y : Bool) → c .synchronous ≡ y → s .moves ≤ 16
+        moves true e =
+            let m : length (s .transfer .scsi) + s .moves ≡ n + 0 = rw (o, e) at (i .scsi) in
+            omega arith
+        moves false e =
+            let m : length (s .transfer .scsi) + s .moves ≡ n + s .acks = rw (o, e) at (i .scsi) in
+            omega (arith, k)
 
 acks-left-small : (c : Conditions) (t : Transfer) → t .offset ≤ 8 → acksLeft c t ≤ 8
 acks-left-small c t h = go (c .synchronous) (t .ack)
@@ -345,17 +390,7 @@ acks-left-small c t h = go (c .synchronous) (t .ack)
     go false false = omega arith
 
 -- SETTLING REPORTS AT MOST 16 MOVES AND 8 ACKS, from a start where none are made
-pub settling-reports : (c : Conditions) (n : ℕ) (s : State) → length (s .transfer .scsi) ≤ 8 → s .transfer .offset ≤ 8 → Report c (settle c n (started s))
-unfolding started
-settling-reports c n s a b =
-    report c (length (s .transfer .scsi)) (acksLeft c (s .transfer)) (settle c n (started s)) a (acks-left-small c (s .transfer) b)
-    (counts-settle c (length (s .transfer .scsi)) (acksLeft c (s .transfer)) n (started s)
-    (record { scsi = a; acks = zero-add _; moves = moved (c .outbound); sent = none (c .outbound) }))
-  where
-    moved : (o : Bool) → cond o (0 + length (s .transfer .scsi) ≡ length (s .transfer .scsi) + 0) (0 + length (s .transfer .scsi) ≤ length (s .transfer .scsi) + 0)
-    moved true = omega arith
-    moved false = omega arith
-
-    none : (o : Bool) → cond o (length ((started s) .sent) ≡ 0) ((started s) .sent ≡ [])
-    none true = refl
-    none false = refl
+pub settling-reports : (c : Conditions) (k : ℕ) (s : State) → length (s .transfer .scsi) ≤ 8 → s .transfer .offset ≤ 8 → Report c (settle c k (started s))
+settling-reports c k s x y =
+    report c (length (s .transfer .host)) (length (s .transfer .scsi)) (acksLeft c (s .transfer)) (settle c k (started s)) x (acks-left-small c (s .transfer) y)
+    (settling-counts c k s x)

@@ -1,0 +1,416 @@
+-- An event of 0 ticks after any event changes nothing.
+use mathlib.Core.Path.{_≡_, refl, sym, _∙_, ap}
+use mathlib.Core.Bool.{Bool, true, false, not, _&&_, _||_, cond, and-not-self}
+use mathlib.Core.List.{List, [], _∷_}
+use Prim.Native.Nat.{ℕ, _+_, _≤_, min}
+use native.Mathlib.Omega.{arith}
+use lib.Dec.{ltb, leb}
+use lib.ListN.{length}
+use borrow.Author.Tests.{le-ltb}
+use Rattle.rules.specs.State.{State, powerReset}
+use Rattle.rules.specs.Seen.{ioSeen, reqSeen, rstSeen, bsySeen, selSeen, ackSeen, connected, mismatched, parityEven}
+use Rattle.rules.specs.Records.{wellFormed, fieldsOf, decode}
+use Rattle.rules.specs.Events.{writes, reads, valueOf, ticksOf, linesAfter, offered, asked, portWrite, portRead}
+use Rattle.rules.specs.Interrupts.{latched}
+use Rattle.rules.specs.Reads.{valueRead}
+use Rattle.rules.specs.Codes.{absent, testValue, shut, noRoom, noBytes, accessCode, isDone}
+use Rattle.rules.specs.StepA.{clears, clearsLatch, clearsError, clrstcnt, clrch, rstfifo, latchAccess, automaticAck, registersA, hostA, counterA, transferA, statusA, latchesA, stackA, identityA, afterA}
+use Rattle.rules.specs.StepB.{reqFalls, rstRises, reqRises, parityBad, synchronousReq, registersB, quietAfter, busFree, edges, transferB, phaseChanges, statusB, applied, edgesOf, afterB}
+use Rattle.rules.specs.StepC.{conditions, canMove, canHandshake, canSynchronous, canAsynchronous, settle, turns, started, settledC}
+use Rattle.rules.specs.StepD.{fifoConflict, pioReady, statusRaised, statusD, latchesD, finished, afterD}
+use Rattle.rules.specs.Answers.{Stepped}
+use Rattle.rules.specs.Step.{refused, done, access, stepEvent, stepDecoded, step, after}
+use Rattle.rules.specs.Ranges.{InRange}
+use Rattle.rules.specs.declared.registers.Registers.{Registers}
+use Rattle.rules.specs.declared.records.Event.{Event}
+use Rattle.rules.specs.declared.records.Event.the-variants.{PowerReset, Write, Read, WordWrite, WordRead, Drive, Ticks}
+use Rattle.rules.specs.declared.records.Decoded.{Decoded}
+use Rattle.rules.specs.declared.records.Decoded.the-variants.{Well, Ill}
+use Rattle.rules.specs.declared.codes.Code.the-variants.{Done, BeyondLimit}
+use Rattle.rules.specs.declared.chip.Status.{Status}
+use Rattle.rules.specs.declared.chip.Latches.{Latches}
+use Rattle.rules.specs.declared.chip.Edges.{Edges}
+use Rattle.rules.proofs.Computes.{computes}
+use Rattle.rules.proofs.Logic.{never, cond-case}
+use Rattle.rules.proofs.Ranges.{EventFits, DecodedFits, decode-fits, after-b-fits, power-reset-fits, step-fits, always-in-range}
+use Rattle.rules.proofs.Rest.{Resting, settle-rests, settling-rests}
+
+-- what holds at the end of every event, and lets 0 ticks change nothing
+pub record AtRest (s : State) : Type 0 where
+  -- neither a move nor a handshake is possible
+  pub resting : Resting (conditions s) (s .transfer)
+  -- FWERR and SPIORDY are set where their causes hold
+  pub fwerr : fifoConflict (s .registers) ≡ true → s .status .fwerr ≡ true
+  pub spiordy : pioReady (s .registers) (s .lines) (s .transfer) ≡ true → s .status .spiordy ≡ true
+  -- REQINIT is clear where ACK is seen, SCSIPERR where ENSPCHK is 0
+  pub reqinit : ackSeen (s .registers) (s .lines) (s .transfer) ≡ true → s .status .reqinit ≡ false
+  pub scsiperr : s .registers .sxfrctl1 .enspchk ≡ false → s .status .scsiperr ≡ false
+  -- no quiet ticks stand where BSY or SEL is seen
+  pub quiet : (bsySeen (s .registers) (s .lines) || selSeen (s .registers) (s .lines)) ≡ true → s .quiet ≡ 0
+
+-- a status that its cause sets, or that another holds clear, stays as it is
+set-already : (cause status : Bool) → (cause ≡ true → status ≡ true) → (cause || status) ≡ status
+set-already true status h = sym (h refl)
+set-already false status h = refl
+
+clear-already : (keep status : Bool) → (keep ≡ false → status ≡ false) → (keep && status) ≡ status
+clear-already true status h = refl
+clear-already false status h = sym (h refl)
+
+-- a latch whose status does not rise and whose enable is as before stays as it is
+latch-still : (kept enable status : Bool) → latched kept enable enable status status ≡ kept
+latch-still true enable status = refl
+latch-still false true true = refl
+latch-still false true false = refl
+latch-still false false status = refl
+
+-- A of no ticks
+status-still : (enspchk : Bool) (t : Status) → (enspchk ≡ false → t .scsiperr ≡ false) → statusA false false enspchk t (Ticks 0) ≡ t
+unfolding statusA clears clearsError writes
+status-still enspchk t h =
+    λ i.
+    record {
+      spiordy = t .spiordy;
+      scsirsti = t .scsirsti;
+      busfree = t .busfree;
+      scsiperr = clear-already enspchk (t .scsiperr) h i;
+      phasechg = t .phasechg;
+      reqinit = t .reqinit;
+      syncerr = t .syncerr;
+      fwerr = t .fwerr;
+    }
+
+after-a-still : (s : State) → AtRest s → afterA s (Ticks 0) ≡ s
+unfolding afterA linesAfter registersA transferA hostA counterA latchesA stackA identityA automaticAck latchAccess clrstcnt clrch rstfifo clears clearsLatch clearsError writes reads valueOf asked portWrite
+after-a-still s r =
+    λ i.
+    record {
+      lines = s .lines;
+      registers = s .registers;
+      transfer = s .transfer;
+      status = status-still (s .registers .sxfrctl1 .enspchk) (s .status) (r .scsiperr) i;
+      latches = s .latches;
+      stack = s .stack;
+      quiet = s .quiet;
+      identity = s .identity;
+    }
+
+-- B of no ticks: nothing rises or falls
+abbrev noEdges : ℕ → Edges
+noEdges quiet =
+    record {
+      reqfalls = false;
+      rstrises = false;
+      reqrises = false;
+      paritybad = false;
+      beyond = false;
+      counted = false;
+      stored = false;
+      late = false;
+      free = false;
+      quiet = quiet;
+    }
+
+rst-still : (s : State) → rstRises s s ≡ false
+unfolding rstRises
+rst-still s = and-not-self (rstSeen (s .registers) (s .lines))
+
+req-rise-still : (s : State) → reqRises s s ≡ false
+unfolding reqRises
+req-rise-still s = go (reqSeen (s .registers) (s .lines)) (not (rstSeen (s .registers) (s .lines)))
+  where
+    go : (q n : Bool) → (q && not q && n) ≡ false
+    go true n = refl
+    go false n = refl
+
+req-fall-still : (s : State) → reqFalls s s ≡ false
+unfolding reqFalls
+req-fall-still s = and-not-self (reqSeen (s .registers) (s .lines))
+
+synchronous-still : (s : State) → synchronousReq s s ≡ false
+unfolding synchronousReq
+synchronous-still s = rw (req-rise-still s)
+
+-- registers that no edge touches
+registers-still : (r : Registers) → registersB false false false r ≡ r
+unfolding registersB
+registers-still r = refl
+
+quiet-still : (s : State) → AtRest s → s .quiet ≤ 8 → quietAfter s s 0 ≡ s .quiet
+unfolding quietAfter
+quiet-still s r h = rw (rst-still s, registers-still (s .registers)) (go (bsySeen (s .registers) (s .lines) || selSeen (s .registers) (s .lines)) refl)
+  where
+    go : (b : Bool) → (bsySeen (s .registers) (s .lines) || selSeen (s .registers) (s .lines)) ≡ b → cond b 0 (min 8 (s .quiet + 0)) ≡ s .quiet
+    go true e = sym (r .quiet e)
+    go false e = omega arith
+
+free-still : (s : State) → AtRest s → s .quiet ≤ 8 → busFree s s 0 ≡ false
+unfolding busFree
+free-still s r h = rw (quiet-still s r h) (and-not-self (leb 8 (s .quiet)))
+
+edges-still : (s : State) → AtRest s → s .quiet ≤ 8 → edges s s 0 ≡ noEdges (s .quiet)
+unfolding edges
+edges-still s r h = rw (rst-still s, req-rise-still s, req-fall-still s, synchronous-still s, free-still s r h, quiet-still s r h)
+
+applied-still : (s : State) → applied (noEdges (s .quiet)) s s ≡ s
+unfolding applied transferB statusB phaseChanges registersB
+applied-still s =
+    λ i.
+    record {
+      lines = s .lines;
+      registers = s .registers;
+      transfer = s .transfer;
+      status = changed (and-not-self (mismatched (s .registers) (s .lines)) i);
+      latches = s .latches;
+      stack = s .stack;
+      quiet = s .quiet;
+      identity = s .identity;
+    }
+  where
+    changed : Bool → Status
+    changed b = statusB (noEdges (s .quiet)) b (s .status)
+
+after-b-still : (s : State) → AtRest s → s .quiet ≤ 8 → afterB s (Ticks 0) ≡ s
+unfolding afterB edgesOf ticksOf
+after-b-still s r h =
+    ap (λ (a : State). applied (edges s a 0) s a) (after-a-still s r) ∙ ap (λ (g : Edges). applied g s s) (edges-still s r h)
+    ∙ applied-still s
+
+-- C of no ticks
+settled-still : (s : State) → AtRest s → s .quiet ≤ 8 → settledC s (Ticks 0) ≡ started s
+unfolding settledC started
+settled-still s r h =
+    ap (λ (b : State). settle (conditions b) turns (started b)) (after-b-still s r h) ∙ settle-rests (conditions s) turns (started s) (r .resting)
+
+-- D of no ticks
+raised-still : (s : State) → AtRest s → statusRaised (s .registers) (s .lines) (s .transfer) (s .status) ≡ s .status
+unfolding statusRaised
+raised-still s r =
+    λ i.
+    record {
+      spiordy = set-already (pioReady (s .registers) (s .lines) (s .transfer)) (s .status .spiordy) (r .spiordy) i;
+      scsirsti = s .status .scsirsti;
+      busfree = s .status .busfree;
+      scsiperr = s .status .scsiperr;
+      phasechg = s .status .phasechg;
+      reqinit = s .status .reqinit;
+      syncerr = s .status .syncerr;
+      fwerr = set-already (fifoConflict (s .registers)) (s .status .fwerr) (r .fwerr) i;
+    }
+
+status-d-still : (seen : Bool) (t : Status) → (seen ≡ true → t .reqinit ≡ false) → statusD 0 seen t ≡ t
+unfolding statusD
+status-d-still seen t h =
+    λ i.
+    record {
+      spiordy = t .spiordy;
+      scsirsti = t .scsirsti;
+      busfree = t .busfree;
+      scsiperr = t .scsiperr;
+      phasechg = t .phasechg;
+      reqinit = go seen h i;
+      syncerr = t .syncerr;
+      fwerr = t .fwerr;
+    }
+  where
+    go : (b : Bool) → (b ≡ true → t .reqinit ≡ false) → (not b && t .reqinit) ≡ t .reqinit
+    go true k = sym (k refl)
+    go false k = refl
+
+latches-still : (r : Registers) (t : Status) (k : Latches) → latchesD r r t t k ≡ k
+unfolding latchesD
+latches-still r t k =
+    λ i.
+    record {
+      spiordy = latch-still (k .spiordy) (r .simode0 .enspiordy) (t .spiordy) i;
+      scsirsti = latch-still (k .scsirsti) (r .simode1 .enscsirst) (t .scsirsti) i;
+      busfree = latch-still (k .busfree) (r .simode1 .enbusfree) (t .busfree) i;
+      scsiperr = latch-still (k .scsiperr) (r .simode1 .enscsiperr) (t .scsiperr) i;
+      phasechg = latch-still (k .phasechg) (r .simode1 .enphasechg) (t .phasechg) i;
+      reqinit = latch-still (k .reqinit) (r .simode1 .enreqinit) (t .reqinit) i;
+    }
+
+finished-still : (s : State) → AtRest s → finished s s s (started s) ≡ s
+unfolding finished started
+finished-still s r =
+    λ i.
+    record {
+      lines = s .lines;
+      registers = s .registers;
+      transfer = s .transfer;
+      status = status i;
+      latches = latches i;
+      stack = s .stack;
+      quiet = s .quiet;
+      identity = s .identity;
+    }
+  where
+    seen : Bool
+    seen = ackSeen (s .registers) (s .lines) (s .transfer)
+
+    status : statusD 0 seen (statusRaised (s .registers) (s .lines) (s .transfer) (s .status)) ≡ s .status
+    status = ap (λ (t : Status). statusD 0 seen t) (raised-still s r) ∙ status-d-still seen (s .status) (r .reqinit)
+
+    latches : latchesD (s .registers) (s .registers) (s .status) (statusRaised (s .registers) (s .lines) (s .transfer) (s .status)) (s .latches) ≡ s .latches
+    latches = ap (λ (t : Status). latchesD (s .registers) (s .registers) (s .status) t (s .latches)) (raised-still s r) ∙ latches-still (s .registers) (s .status) (s .latches)
+
+after-d-still : (s : State) → AtRest s → s .quiet ≤ 8 → afterD s (Ticks 0) ≡ s
+unfolding afterD
+after-d-still s r h = rw (after-a-still s r, after-b-still s r h, settled-still s r h) (finished-still s r)
+
+-- the record of 0 ticks
+abbrev pub zeroTicks : List ℕ
+zeroTicks = 0xC0 ∷ 0 ∷ 0 ∷ 0 ∷ []
+
+-- the step that changes nothing: the same state, code 0, no value, no move, no ACK, nothing sent
+abbrev pub nothing : State → Stepped
+nothing s = record { state = s; code = Done; value = 0; moves = 0; acks = 0; sent = [] }
+
+ticks-done : (s : State) → length (s .transfer .host) ≤ 128 → accessCode s (Ticks 0) ≡ Done
+unfolding accessCode absent testValue shut noRoom noBytes writes offered asked portWrite portRead
+ticks-done s h = rw (le-ltb 128 (length (s .transfer .host) + 0) (omega arith), le-ltb (length (s .transfer .host)) 0 (omega arith))
+
+ticks-edges : (s : State) → AtRest s → s .quiet ≤ 8 → edgesOf s (Ticks 0) ≡ noEdges (s .quiet)
+unfolding edgesOf ticksOf
+ticks-edges s r h = ap (λ (a : State). edges s a 0) (after-a-still s r) ∙ edges-still s r h
+
+done-still : (s : State) → AtRest s → s .quiet ≤ 8 → done s (Ticks 0) ≡ nothing s
+unfolding done valueRead started
+done-still s r h =
+    λ i.
+    record {
+      state = after-d-still s r h i;
+      code = cond (ticks-edges s r h i .beyond) BeyondLimit Done;
+      value = 0;
+      moves = settled-still s r h i .moves;
+      acks = settled-still s r h i .acks;
+      sent = settled-still s r h i .sent;
+    }
+
+-- AT REST, AN EVENT OF 0 TICKS CHANGES NOTHING and reports nothing
+pub zero-ticks-at-rest : (s : State) → AtRest s → InRange s → step s zeroTicks ≡ nothing s
+unfolding step decode fieldsOf wellFormed stepDecoded stepEvent access
+zero-ticks-at-rest s r i = rw (ticks-done s (i .transfer .host)) (done-still s r (i .quiet))
+
+-- POWER RESET IS AT REST
+pub power-reset-rests : AtRest powerReset
+unfolding computes
+power-reset-rests =
+    record {
+      resting = record { noMove = refl; noHandshake = refl };
+      fwerr = λ e. absurd (never e);
+      spiordy = λ e. absurd (never e);
+      reqinit = λ e. refl;
+      scsiperr = λ e. refl;
+      quiet = λ e. refl;
+    }
+
+settled-rests : (s : State) (e : Event) → InRange (afterB s e) → Resting (conditions (afterD s e)) ((settledC s e) .transfer)
+unfolding settledC started afterD finished conditions canMove canHandshake canSynchronous canAsynchronous
+settled-rests s e b =
+    let r = settling-rests (conditions (afterB s e)) (started (afterB s e)) (b .transfer .scsi) (b .transfer .offset) in
+    record { noMove = r .noMove; noHandshake = r .noHandshake }
+
+-- what sets a status leaves it set, what clears one leaves it clear
+sets : (cause status : Bool) → cause ≡ true → (cause || status) ≡ true
+sets true status e = refl
+sets false status e = absurd (never e)
+
+clears-seen : (keep seen status : Bool) → seen ≡ true → (keep && not seen && status) ≡ false
+clears-seen true true status e = refl
+clears-seen false true status e = refl
+clears-seen keep false status e = absurd (never e)
+
+-- SCSIPERR neither rises nor stays where ENSPCHK is 0
+unchecked : (rises bus enspchk even kept status : Bool) → enspchk ≡ false → ((rises && (bus && enspchk && even)) || (kept && enspchk && status)) ≡ false
+unchecked true true false even true status e = refl
+unchecked true true false even false status e = refl
+unchecked true false false even true status e = refl
+unchecked true false false even false status e = refl
+unchecked false bus false even true status e = refl
+unchecked false bus false even false status e = refl
+unchecked rises bus true even kept status e = absurd (never (sym e))
+
+parity-rests : (s : State) (e : Event) → (afterB s e) .registers .sxfrctl1 .enspchk ≡ false → (afterB s e) .status .scsiperr ≡ false
+unfolding afterB applied registersB statusB edgesOf edges parityBad afterA statusA
+parity-rests s e h =
+    let r = registersA (s .registers) e in
+    let l = linesAfter e (s .lines) in
+    unchecked (reqRises s (afterA s e)) (connected r l && ioSeen r l) (r .sxfrctl1 .enspchk) (parityEven r l (transferA (automaticAck s e) (s .transfer) e)) (not (clears e 2)) (s .status .scsiperr) h
+
+-- BSY or SEL that is seen after B was seen where the quiet ticks were counted
+seen-before : (b x l y reset free : Bool) → ((b || (not (reset || free) && x)) || (l || (not (reset || free) && y))) ≡ true → ((b || (not (reset || false) && x)) || (l || (not (reset || false) && y))) ≡ true
+seen-before b x l y true free h = h
+seen-before b x l y false false h = h
+seen-before true x l y false true h = refl
+seen-before false true true y false true h = refl
+seen-before false false true y false true h = refl
+seen-before false x false y false true h = absurd (never h)
+
+none : (b : Bool) (n : ℕ) → b ≡ true → cond b 0 n ≡ 0
+none true n e = refl
+none false n e = absurd (never e)
+
+quiet-rests : (s : State) (e : Event) → (bsySeen ((afterB s e) .registers) ((afterB s e) .lines) || selSeen ((afterB s e) .registers) ((afterB s e) .lines)) ≡ true → (afterB s e) .quiet ≡ 0
+unfolding afterB edgesOf applied edges quietAfter bsySeen selSeen registersB
+quiet-rests s e h =
+    let a = afterA s e in
+    let reset = rstRises s a in
+    none ((a .lines .bsy || (not (reset || false) && a .registers .scsisig .bsyo)) || (a .lines .sel || (not (reset || false) && a .registers .scsisig .selo))) (min 8 (a .quiet + ticksOf e))
+    (seen-before (a .lines .bsy) (a .registers .scsisig .bsyo) (a .lines .sel) (a .registers .scsisig .selo) reset (busFree s a (ticksOf e)) h)
+
+-- EVERY EVENT THAT IS DONE LEAVES THE CHIP AT REST
+done-rests : (s : State) (e : Event) → InRange (afterB s e) → AtRest (afterD s e)
+unfolding afterD finished statusD statusRaised
+done-rests s e b =
+    let r = (afterB s e) .registers in
+    let l = (afterB s e) .lines in
+    let t = (settledC s e) .transfer in
+    record {
+      resting = settled-rests s e b;
+      fwerr = sets (fifoConflict r) ((afterB s e) .status .fwerr);
+      spiordy = sets (pioReady r l t) ((afterB s e) .status .spiordy);
+      reqinit = clears-seen (not (ltb 0 ((settledC s e) .acks))) (ackSeen r l t) ((afterB s e) .status .reqinit);
+      scsiperr = parity-rests s e;
+      quiet = quiet-rests s e;
+    }
+
+-- what a refusal and an access leave
+access-rests : (s : State) (e : Event) → EventFits e → InRange s → AtRest s → AtRest ((access s e) .state)
+unfolding access done refused
+access-rests s e f i r =
+    cond-case (λ (k : Stepped). AtRest (k .state)) (isDone (accessCode s e)) _ _
+    (λ d. done-rests s e (after-b-fits s e f d i)) (λ d. r)
+
+event-rests : (s : State) (e : Event) → EventFits e → InRange s → AtRest s → AtRest ((stepEvent s e) .state)
+unfolding stepEvent refused
+event-rests s PowerReset f i r = power-reset-rests
+event-rests s (Write offset value) f i r = access-rests s (Write offset value) f i r
+event-rests s (Read offset) f i r = access-rests s (Read offset) f i r
+event-rests s (WordWrite word) f i r = access-rests s (WordWrite word) f i r
+event-rests s WordRead f i r = access-rests s WordRead f i r
+event-rests s (Drive lines) f i r = access-rests s (Drive lines) f i r
+event-rests s (Ticks n) f i r = access-rests s (Ticks n) f i r
+
+decoded-rests : (s : State) (d : Decoded) → DecodedFits d → InRange s → AtRest s → AtRest ((stepDecoded s d) .state)
+unfolding stepDecoded refused
+decoded-rests s (Well e) f i r = event-rests s e f i r
+decoded-rests s Ill f i r = r
+
+-- EVERY RECORD LEAVES THE CHIP AT REST
+pub step-rests : (s : State) (bytes : List ℕ) → InRange s → AtRest s → AtRest ((step s bytes) .state)
+unfolding step
+step-rests s bytes i r = decoded-rests s (decode bytes) (decode-fits bytes) i r
+
+-- and so does every list of records
+pub after-rests : (s : State) (records : List (List ℕ)) → InRange s → AtRest s → AtRest (after s records)
+after-rests s [] i r = r
+after-rests s (bytes ∷ more) i r = after-rests ((step s bytes) .state) more (step-fits s bytes i .state) (step-rests s bytes i r)
+
+-- FROM POWER RESET, AFTER ANY LIST OF RECORDS, THE CHIP IS AT REST
+pub always-at-rest : (records : List (List ℕ)) → AtRest (after powerReset records)
+always-at-rest records = after-rests powerReset records power-reset-fits power-reset-rests
+
+-- FROM POWER RESET, AFTER ANY LIST OF RECORDS, AN EVENT OF 0 TICKS CHANGES NOTHING
+pub zero-ticks : (records : List (List ℕ)) → step (after powerReset records) zeroTicks ≡ nothing (after powerReset records)
+zero-ticks records = zero-ticks-at-rest (after powerReset records) (always-at-rest records) (always-in-range records)
