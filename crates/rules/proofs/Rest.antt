@@ -1,7 +1,7 @@
 -- Settling reaches rest: within 24 turns neither a move nor a handshake is possible, with at most 16 moves and 8 ACKs.
 use mathlib.Core.Path.{_≡_, refl, sym, _∙_}
 use mathlib.Core.Bool.{Bool, true, false, not, _&&_, _||_, cond}
-use mathlib.Core.List.{[]}
+use mathlib.Core.List.{List, []}
 use Prim.Native.Nat.{ℕ, zero, suc, _+_, _*_, _-_, _<_, _≤_}
 use native.Mathlib.Omega.{arith}
 use native.Mathlib.Nat.{zero-add}
@@ -101,7 +101,7 @@ module _ (c : Conditions) (t : Transfer) where
       ltb-true (length (t .scsi)) 8 (right-true (c .req && not (t .ack)) (ltb (length (t .scsi)) 8) (rw o at (handshake-asynchronous y h)))
 
 -- a move leaves one turn less
-move-lowers : (c : Conditions) (s : Settling) → canMove c (s .transfer) ≡ true → suc (measure c ((move c s) .transfer)) ≤ measure c (s .transfer)
+pub move-lowers : (c : Conditions) (s : Settling) → canMove c (s .transfer) ≡ true → suc (measure c ((move c s) .transfer)) ≤ measure c (s .transfer)
 unfolding move
 move-lowers c s h = go (c .outbound) refl
   where
@@ -114,7 +114,7 @@ move-lowers c s h = go (c .outbound) refl
         simp (o, length-drop) (omega arith)
 
 -- a handshake leaves at least one turn less
-handshake-lowers : (c : Conditions) (s : Settling) → canHandshake c (s .transfer) ≡ true → suc (measure c ((handshake c s) .transfer)) ≤ measure c (s .transfer)
+pub handshake-lowers : (c : Conditions) (s : Settling) → canHandshake c (s .transfer) ≡ true → suc (measure c ((handshake c s) .transfer)) ≤ measure c (s .transfer)
 unfolding handshake
 handshake-lowers c s h = go (c .outbound) (c .synchronous) refl refl
   where
@@ -132,11 +132,11 @@ handshake-lowers c s h = go (c .outbound) (c .synchronous) refl refl
     go false false o y = simp (o, y, asynchronous-ack c (s .transfer) y h, length-append) (omega arith)
 
 -- what a turn is, by what is possible
-turn-moves : (c : Conditions) (s : Settling) → canMove c (s .transfer) ≡ true → turn c s ≡ move c s
+pub turn-moves : (c : Conditions) (s : Settling) → canMove c (s .transfer) ≡ true → turn c s ≡ move c s
 unfolding turn
 turn-moves c s p = rw p
 
-turn-handshakes : (c : Conditions) (s : Settling) → canMove c (s .transfer) ≡ false → canHandshake c (s .transfer) ≡ true → turn c s ≡ handshake c s
+pub turn-handshakes : (c : Conditions) (s : Settling) → canMove c (s .transfer) ≡ false → canHandshake c (s .transfer) ≡ true → turn c s ≡ handshake c s
 unfolding turn
 turn-handshakes c s p q = rw (p, q)
 
@@ -248,7 +248,7 @@ pub record Counts (c : Conditions) (h n a : ℕ) (s : Settling) : Type 0 where
   pub sent : cond (c .outbound) (length (s .sent) ≡ s .acks) (s .sent ≡ [])
 
 module _ (c : Conditions) (h n a : ℕ) (s : Settling) where
-  counts-move : canMove c (s .transfer) ≡ true → Counts c h n a s → Counts c h n a (move c s)
+  pub counts-move : canMove c (s .transfer) ≡ true → Counts c h n a s → Counts c h n a (move c s)
   unfolding move
   counts-move can i = go (c .outbound) refl
     where
@@ -276,7 +276,7 @@ module _ (c : Conditions) (h n a : ℕ) (s : Settling) where
             sent = i .sent;
           }
 
-  counts-handshake : canHandshake c (s .transfer) ≡ true → Counts c h n a s → Counts c h n a (handshake c s)
+  pub counts-handshake : canHandshake c (s .transfer) ≡ true → Counts c h n a s → Counts c h n a (handshake c s)
   unfolding handshake
   counts-handshake can i =
       record {
@@ -318,25 +318,30 @@ module _ (c : Conditions) (h n a : ℕ) (s : Settling) where
 counts-settle : (c : Conditions) (h n a k : ℕ) (s : Settling) → Counts c h n a s → Counts c h n a (settle c k s)
 counts-settle c h n a = settle-keeps (Counts c h n a) c (counts-move c h n a) (counts-handshake c h n a)
 
+-- where nothing is moved, acknowledged or sent yet
+pub counts-start : (c : Conditions) (t : Transfer) → length (t .scsi) ≤ 8 → Counts c (length (t .host)) (length (t .scsi)) (acksLeft c t) (record { transfer = t; moves = 0; acks = 0; sent = [] })
+counts-start c t x =
+    record { full = x; acks = zero-add _; host = host (c .outbound); scsi = scsi (c .outbound) (c .synchronous); sent = sent (c .outbound) }
+  where
+    host : (o : Bool) → cond o (length (t .host) + 0 ≡ length (t .host)) (length (t .host) ≡ length (t .host) + 0)
+    host true = omega arith
+    host false = omega arith
+
+    scsi : (o y : Bool) → cond o (length (t .scsi) + 0 ≡ length (t .scsi) + 0) (length (t .scsi) + 0 ≡ length (t .scsi) + cond y 0 0)
+    scsi true y = refl
+    scsi false true = refl
+    scsi false false = refl
+
+    sent : (o : Bool) → cond o (length {A = ℕ} [] ≡ 0) (_≡_ {A = List ℕ} [] [])
+    sent true = refl
+    sent false = refl
+
 -- SETTLING LOSES AND MAKES NO BYTE: the FIFOs' counts follow from the moves and ACKs reported
 pub settling-counts : (c : Conditions) (k : ℕ) (s : State) → length (s .transfer .scsi) ≤ 8 → Counts c (length (s .transfer .host)) (length (s .transfer .scsi)) (acksLeft c (s .transfer)) (settle c k (started s))
 unfolding started
 settling-counts c k s x =
     counts-settle c (length (s .transfer .host)) (length (s .transfer .scsi)) (acksLeft c (s .transfer)) k (started s)
-    (record { full = x; acks = zero-add _; host = host (c .outbound); scsi = scsi (c .outbound) (c .synchronous); sent = sent (c .outbound) })
-  where
-    host : (o : Bool) → cond o (length (s .transfer .host) + 0 ≡ length (s .transfer .host)) (length (s .transfer .host) ≡ length (s .transfer .host) + 0)
-    host true = omega arith
-    host false = omega arith
-
-    scsi : (o y : Bool) → cond o (length (s .transfer .scsi) + 0 ≡ length (s .transfer .scsi) + 0) (length (s .transfer .scsi) + 0 ≡ length (s .transfer .scsi) + cond y 0 0)
-    scsi true y = refl
-    scsi false true = refl
-    scsi false false = refl
-
-    sent : (o : Bool) → cond o (length ((started s) .sent) ≡ 0) ((started s) .sent ≡ [])
-    sent true = refl
-    sent false = refl
+    (counts-start c (s .transfer) x)
 
 -- what an event reports: "at most 16; ACKs at most 8"; a byte sent for each ACK outbound, and none inbound
 pub record Report (c : Conditions) (s : Settling) : Type 0 where
@@ -346,7 +351,7 @@ pub record Report (c : Conditions) (s : Settling) : Type 0 where
   pub sentOutbound : c .outbound ≡ true → length (s .sent) ≡ s .acks
   pub sentInbound : c .outbound ≡ false → s .sent ≡ []
 
-report : (c : Conditions) (h n a : ℕ) (s : Settling) → n ≤ 8 → a ≤ 8 → Counts c h n a s → Report c s
+pub report : (c : Conditions) (h n a : ℕ) (s : Settling) → n ≤ 8 → a ≤ 8 → Counts c h n a s → Report c s
 report c h n a s hn ha i = go (c .outbound) (c .synchronous) refl refl
   where
     k : s .acks ≤ 8
@@ -381,7 +386,7 @@ report c h n a s hn ha i = go (c .outbound) (c .synchronous) refl refl
             let m : length (s .transfer .scsi) + s .moves ≡ n + s .acks = rw (o, e) at (i .scsi) in
             omega (arith, k)
 
-acks-left-small : (c : Conditions) (t : Transfer) → t .offset ≤ 8 → acksLeft c t ≤ 8
+pub acks-left-small : (c : Conditions) (t : Transfer) → t .offset ≤ 8 → acksLeft c t ≤ 8
 acks-left-small c t h = go (c .synchronous) (t .ack)
   where
     go : (y k : Bool) → cond y (t .offset) (one (not k)) ≤ 8
