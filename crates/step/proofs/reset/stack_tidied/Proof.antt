@@ -1,0 +1,11 @@
+use mathlib.Core.Path.{refl}
+use Rattle.rules.specs.Chips.{stackView}
+use Rattle.step.proofs.reset.stack_tidied.Statement.{statement}
+use Rattle.step.proofs.reset.stack_tidied.Tie as tie
+
+returns : tie.Need-returns
+unfolding stackView
+returns c = refl
+
+pub stack-tidied-spec : {M : Type 1} → statement M
+stack-tidied-spec = tie.close (tie.spec returns)

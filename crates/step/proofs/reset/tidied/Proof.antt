@@ -1,0 +1,30 @@
+use Rattle.rules.specs.Chips.{chipOf, view}
+use borrow.Author.Needs.{needs}
+use Rattle.step.proofs.reset.tidied.Statement.{statement}
+use Rattle.step.proofs.reset.tidied.Tie as tie
+
+registers-tidied-requires : tie.Need-registers-tidied-requires
+registers-tidied-requires c κs = search needs
+
+path-tidied-requires : tie.Need-path-tidied-requires
+path-tidied-requires c κs = search needs
+
+stack-tidied-requires : tie.Need-stack-tidied-requires
+stack-tidied-requires c κs = search needs
+
+at-most-8-requires : tie.Need-at-most-8-requires
+at-most-8-requires c κs = search needs
+
+returns : tie.Need-returns
+unfolding chipOf view
+returns c = rw (c .before .at-most-8 .ensures, c .before .before .stack-tidied .ensures, c .before .before .before .before .path-tidied .ensures, c .before .before .before .before .before .before .registers-tidied .ensures)
+
+pub tidied-spec : {M : Type 1} → statement M
+tidied-spec =
+    tie.close
+    (tie.spec
+    registers-tidied-requires
+    path-tidied-requires
+    stack-tidied-requires
+    at-most-8-requires
+    returns)

@@ -1,0 +1,34 @@
+-- A run of records in one lent slice, "four each (a last piece of 1 to 3 bytes is a record too)", and of answers in another.
+use Prim.Native.Nat.{ℕ, zero, suc, _+_, _*_, _/_, min}
+use mathlib.Core.Path.{_≡_}
+use mathlib.Core.List.{List, [], _∷_, _++_}
+use lib.ListN.{length, take, drop}
+use Rattle.rules.specs.State.{State}
+use Rattle.rules.specs.Chips.{view, chipOf}
+use Rattle.rules.specs.Step.{after, answers}
+use Rattle.rules.specs.declared.chip.Chip.{Chip}
+use Rattle.step.specs.declared.Ran.{Ran}
+
+-- the first n records of a slice
+abbrev pub recordsOf : ℕ → List ℕ → List (List ℕ)
+recordsOf zero bytes = []
+recordsOf (suc n) bytes = take 4 bytes ∷ recordsOf n (drop 4 bytes)
+
+-- how many records a slice holds
+abbrev pub recordsIn : List ℕ → ℕ
+recordsIn bytes = (length bytes + 3) / 4
+
+-- how many are stepped: as many as there is room for whole answers
+abbrev pub steppedIn : List ℕ → List ℕ → ℕ
+steppedIn bytes buffer = min (recordsIn bytes) (length buffer / 16)
+
+-- lists one after the other
+abbrev pub joined : List (List ℕ) → List ℕ
+joined [] = []
+joined (l ∷ ls) = l ++ joined ls
+
+-- the single steps one after another: the chip they leave, how many, and their answers with the rest of the buffer as it was
+pub record IsRun (c : Chip) (bytes before buffer : List ℕ) (r : Ran) : Type 0 where
+  pub count : r .count ≡ steppedIn bytes before
+  pub chip : r .chip ≡ chipOf (after (view c) (recordsOf (steppedIn bytes before) bytes))
+  pub answers : buffer ≡ joined (answers (view c) (recordsOf (steppedIn bytes before) bytes)) ++ drop (16 * steppedIn bytes before) before
