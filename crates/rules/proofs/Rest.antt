@@ -101,7 +101,7 @@ module _ (c : Conditions) (t : Transfer) where
       ltb-true (length (t .scsi)) 8 (right-true (c .req && not (t .ack)) (ltb (length (t .scsi)) 8) (rw o at (handshake-asynchronous y h)))
 
 -- a move leaves one turn less
-move-lowers : (c : Conditions) (s : Settling) → canMove c (s .transfer) ≡ true → suc (measure c ((move c s) .transfer)) ≤ measure c (s .transfer)
+pub move-lowers : (c : Conditions) (s : Settling) → canMove c (s .transfer) ≡ true → suc (measure c ((move c s) .transfer)) ≤ measure c (s .transfer)
 unfolding move
 move-lowers c s h = go (c .outbound) refl
   where
@@ -114,7 +114,7 @@ move-lowers c s h = go (c .outbound) refl
         simp (o, length-drop) (omega arith)
 
 -- a handshake leaves at least one turn less
-handshake-lowers : (c : Conditions) (s : Settling) → canHandshake c (s .transfer) ≡ true → suc (measure c ((handshake c s) .transfer)) ≤ measure c (s .transfer)
+pub handshake-lowers : (c : Conditions) (s : Settling) → canHandshake c (s .transfer) ≡ true → suc (measure c ((handshake c s) .transfer)) ≤ measure c (s .transfer)
 unfolding handshake
 handshake-lowers c s h = go (c .outbound) (c .synchronous) refl refl
   where
@@ -132,11 +132,11 @@ handshake-lowers c s h = go (c .outbound) (c .synchronous) refl refl
     go false false o y = simp (o, y, asynchronous-ack c (s .transfer) y h, length-append) (omega arith)
 
 -- what a turn is, by what is possible
-turn-moves : (c : Conditions) (s : Settling) → canMove c (s .transfer) ≡ true → turn c s ≡ move c s
+pub turn-moves : (c : Conditions) (s : Settling) → canMove c (s .transfer) ≡ true → turn c s ≡ move c s
 unfolding turn
 turn-moves c s p = rw p
 
-turn-handshakes : (c : Conditions) (s : Settling) → canMove c (s .transfer) ≡ false → canHandshake c (s .transfer) ≡ true → turn c s ≡ handshake c s
+pub turn-handshakes : (c : Conditions) (s : Settling) → canMove c (s .transfer) ≡ false → canHandshake c (s .transfer) ≡ true → turn c s ≡ handshake c s
 unfolding turn
 turn-handshakes c s p q = rw (p, q)
 
@@ -223,7 +223,7 @@ pub record Counts (c : Conditions) (n a : ℕ) (s : Settling) : Type 0 where
   pub sent : cond (c .outbound) (length (s .sent) ≡ s .acks) (s .sent ≡ [])
 
 module _ (c : Conditions) (n a : ℕ) (s : Settling) where
-  counts-move : canMove c (s .transfer) ≡ true → Counts c n a s → Counts c n a (move c s)
+  pub counts-move : canMove c (s .transfer) ≡ true → Counts c n a s → Counts c n a (move c s)
   unfolding move
   counts-move h i = go (c .outbound) refl
     where
@@ -248,7 +248,7 @@ module _ (c : Conditions) (n a : ℕ) (s : Settling) where
             sent = i .sent;
           }
 
-  counts-handshake : canHandshake c (s .transfer) ≡ true → Counts c n a s → Counts c n a (handshake c s)
+  pub counts-handshake : canHandshake c (s .transfer) ≡ true → Counts c n a s → Counts c n a (handshake c s)
   unfolding handshake
   counts-handshake h i = go (c .outbound) (c .synchronous) refl refl
     where
@@ -311,7 +311,7 @@ pub record Report (c : Conditions) (s : Settling) : Type 0 where
   pub sentOutbound : c .outbound ≡ true → length (s .sent) ≡ s .acks
   pub sentInbound : c .outbound ≡ false → s .sent ≡ []
 
-report : (c : Conditions) (n a : ℕ) (s : Settling) → n ≤ 8 → a ≤ 8 → Counts c n a s → Report c s
+pub report : (c : Conditions) (n a : ℕ) (s : Settling) → n ≤ 8 → a ≤ 8 → Counts c n a s → Report c s
 report c n a s hn ha i = go (c .outbound) refl
   where
     go : (o : Bool) → c .outbound ≡ o → Report c s
@@ -336,7 +336,7 @@ report c n a s hn ha i = go (c .outbound) refl
           sentInbound = λ e. l;
         }
 
-acks-left-small : (c : Conditions) (t : Transfer) → t .offset ≤ 8 → acksLeft c t ≤ 8
+pub acks-left-small : (c : Conditions) (t : Transfer) → t .offset ≤ 8 → acksLeft c t ≤ 8
 acks-left-small c t h = go (c .synchronous) (t .ack)
   where
     go : (y k : Bool) → cond y (t .offset) (one (not k)) ≤ 8

@@ -1,0 +1,5 @@
+pub mod Between
+pub mod Parts
+pub mod Runs
+pub mod Tests
+pub mod Underway
