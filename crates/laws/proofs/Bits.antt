@@ -1,14 +1,14 @@
 -- Masks, shifts and packing by the definitions' bit and field: each law once, over the bit index or the width.
-use mathlib.Core.Path.{_≡_, ap}
+use mathlib.Core.Path.{_≡_, refl, ap, _∙_}
 use mathlib.Core.Bool.{Bool, true, false}
-use Prim.Native.Nat.{ℕ, _+_, _*_, _/_, _%_, _^_, _-_, _≤_, _<_}
-use native.Mathlib.Nat.{mod-eq-of-lt, div-eq-of-lt, lt-of-lt-of-le}
+use Prim.Native.Nat.{ℕ, zero, suc, _+_, _*_, _/_, _%_, _^_, _-_, _≤_, _<_}
+use native.Mathlib.Nat.{mod-eq-of-lt, div-eq-of-lt, lt-of-lt-of-le, lt-of-le-of-lt, div-one, div-mul-le-self, one-mul, suc-mul, mul-le-mul-right, mod-lt, add-comm, div-div-eq-div-mul, pow-succ', add-zero, zero-add, add-assoc}
 use native.Mathlib.Omega.{arith}
-use lib.Pow.{pow-mono}
+use lib.Pow.{pow-pos, pow-mono, pow-add, shl-lt, shl-exact}
 use lib.Dec.{eqb}
 use lib.Bits.{bitAnd, bitOr, or-shifted, and-mask, mask-lt}
 use mir.Val.{boolByte}
-use Rattle.rules.specs.Numbers.{bit, field, one}
+use Rattle.rules.specs.Numbers.{bit, field, one, onesIn, ones}
 
 -- (n >> k) & (2 ^ w - 1)
 pub field-and : (n k w : ℕ) → bitAnd (n / 2 ^ k) (2 ^ w - 1) ≡ field n k w
@@ -19,8 +19,11 @@ pub bit-and-one : (n k : ℕ) → eqb (bitAnd (n / 2 ^ k) 1) 1 ≡ bit n k
 bit-and-one n k = ap (λ (m : ℕ). eqb m 1) (and-mask (n / 2 ^ k) 1)
 
 -- a number of w bits has none past them
+pub shr-past : (w n k : ℕ) → n < 2 ^ w → w ≤ k → n / 2 ^ k ≡ 0
+shr-past w n k h l = div-eq-of-lt {n = n} {m = 2 ^ k} (lt-of-lt-of-le h (pow-mono l))
+
 pub bit-past : (w n k : ℕ) → n < 2 ^ w → w ≤ k → false ≡ bit n k
-bit-past w n k h l = rw (div-eq-of-lt {n = n} {m = 2 ^ k} (lt-of-lt-of-le h (pow-mono l)))
+bit-past w n k h l = rw (shr-past w n k h l)
 
 -- (a << k) | b in a word of w bits, where nothing is lost and b is below the shift
 pub join : (w k a b : ℕ) → a * 2 ^ k < 2 ^ w → b < 2 ^ k → bitOr (a * 2 ^ k % 2 ^ w) b ≡ a * 2 ^ k + b
@@ -38,3 +41,47 @@ join-bit w a false h = join w 1 a 0 h (omega arith)
 pub one-below : (b : Bool) → one b < 2
 one-below true = omega arith
 one-below false = omega arith
+
+-- two fields side by side fit their widths
+pub join-lt : (j k a b : ℕ) → a < 2 ^ j → b < 2 ^ k → a * 2 ^ k + b < 2 ^ (j + k)
+join-lt j k a b h l = rw (pow-add 2 j k) (lt-of-lt-of-le (rw (suc-mul a (2 ^ k)) (omega arith)) (mul-le-mul-right (2 ^ k) h))
+
+-- 1 << k
+pub shl-one : (w k : ℕ) → k < w → 1 * 2 ^ k % 2 ^ w ≡ 2 ^ k
+shl-one w k h = shl-exact {a = 1} 1 k w (omega arith) (omega arith) ∙ one-mul (2 ^ k)
+
+-- n & ((1 << k) - 1)
+pub low-and : (w k n : ℕ) → k < w → bitAnd n (1 * 2 ^ k % 2 ^ w - 1) ≡ n % 2 ^ k
+low-and w k n h = rw (shl-one w k h) (and-mask n k)
+
+-- ((n >> (k + j)) << (k + j)) | ((v << k) | (n & ((1 << k) - 1))): n with its field of j bits from k on written
+pub put-field : (w j k v n : ℕ) → j + k ≤ w → k < w → v < 2 ^ j → n < 2 ^ w → bitOr (n / 2 ^ (k + j) * 2 ^ (k + j) % 2 ^ w) (bitOr (v * 2 ^ k % 2 ^ w) (bitAnd n (1 * 2 ^ k % 2 ^ w - 1))) ≡ n / 2 ^ (k + j) * 2 ^ (k + j) + v * 2 ^ k + n % 2 ^ k
+put-field w j k v n f h p q =
+    let low : n % 2 ^ k < 2 ^ k = mod-lt n (pow-pos k) in
+    let mid : v * 2 ^ k < 2 ^ w = lt-of-lt-of-le (shl-lt j k p) (pow-mono f) in
+    let top : n / 2 ^ (k + j) * 2 ^ (k + j) < 2 ^ w = lt-of-le-of-lt (div-mul-le-self n (2 ^ (k + j))) q in
+    let both : v * 2 ^ k + n % 2 ^ k < 2 ^ (k + j) = rw (add-comm k j) (join-lt j k v (n % 2 ^ k) p low) in
+    rw (low-and w k n h, join w k v (n % 2 ^ k) mid low, join w (k + j) (n / 2 ^ (k + j)) (v * 2 ^ k + n % 2 ^ k) top both, add-assoc)
+
+-- a bool as a number
+pub one-of : (b : Bool) → boolByte b ≡ one b
+one-of true = refl
+one-of false = refl
+
+pub one-le : (b : Bool) → boolByte b ≤ 1
+one-le true = omega arith
+one-le false = omega arith
+
+-- one bit more
+pub ones-next : (n v : ℕ) → onesIn n v + v / 2 ^ n % 2 ≡ onesIn (suc n) v
+ones-next zero v = simp (div-one, zero-add, add-zero)
+ones-next (suc n) v = rw (add-assoc, pow-succ', ← (div-div-eq-div-mul v 2 (2 ^ n)), ones-next n (v / 2))
+
+-- no more ones than bits
+pub ones-le : (n v : ℕ) → onesIn n v ≤ n
+ones-le zero v = omega arith
+ones-le (suc n) v = omega (arith, ones-le n (v / 2))
+
+pub byte-ones-le : (v : ℕ) → ones v ≤ 8
+unfolding ones
+byte-ones-le v = ones-le 8 v
