@@ -6,9 +6,10 @@ use mathlib.Core.List.{List, [], _∷_, _++_}
 use lib.Dec.{ltb}
 use lib.ListN.{length, take}
 use Rattle.rules.specs.Numbers.{padded}
-use Rattle.rules.specs.Chips.{hostView, hostOf, scsiView, scsiOf}
+use Rattle.rules.specs.Chips.{hostView, hostOf, scsiView, scsiOf, pathView, pathOf}
 use Rattle.rules.specs.declared.chip.HostFifo.{HostFifo}
 use Rattle.rules.specs.declared.chip.ScsiFifo.{ScsiFifo}
+use Rattle.rules.specs.declared.chip.DataPath.{DataPath}
 use Rattle.fifos.specs.declared.sent.Sent.{Sent}
 
 abbrev pub HostTidy : HostFifo → Type 0
@@ -16,6 +17,10 @@ HostTidy f = f ≡ hostOf (hostView f)
 
 abbrev pub ScsiTidy : ScsiFifo → Type 0
 ScsiTidy f = f ≡ scsiOf (scsiView f)
+
+-- and counter and offset in range
+abbrev pub PathTidy : DataPath → Type 0
+PathTidy p = p ≡ pathOf (pathView p)
 
 -- "those sent by Normal-mode ACKs in this event, in order, the rest 0"
 abbrev pub sentView : Sent → List ℕ

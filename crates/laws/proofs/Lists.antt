@@ -64,6 +64,10 @@ shown-none n j l h =
     let k : length (take n l) ≤ j = omega arith in
     sym (List·getD-eq-default (take n l) 0 k)
 
+-- the first, where there is one
+pub take-one : (l : List ℕ) → 0 < length l → take 1 l ≡ getD l 0 0 ∷ []
+take-one l h = take-suc l 0 0 h
+
 -- a turn of a loop that copies s behind l, of which m are there
 pub join-copy : (n : ℕ) (l s : List ℕ) (m i : ℕ) (out : List ℕ) → m ≡ length l → out ≡ padded n (l ++ take i s) → m + i < n → i < length s → set out (m + i) (getD s i 0) ≡ padded n (l ++ take (i + 1) s)
 join-copy n l s m i out q e h k =
@@ -79,6 +83,12 @@ module _ (n c : ℕ) (bs : List ℕ) (b : ℕ) (e : bs ≡ padded n (take c bs))
   push-at h =
       let p : set (padded n (take c bs)) (length (take c bs)) b ≡ padded n (take c bs ++ (b ∷ [])) = padded-push n (take c bs) b (omega arith) in
       cc
+
+-- a count that shows as many as it says is no more than the places
+pub count-fits : (n c : ℕ) (bs : List ℕ) → length bs ≡ n → c ≡ length (take c bs) → c ≤ n
+count-fits n c bs e q =
+    let t : length (take c bs) ≡ min c (length bs) = length-take c bs in
+    omega arith
 
 -- bytes with any count c, of which m can be there
 module _ (n c m : ℕ) (bs : List ℕ) (e : length bs ≡ n) (p : m ≡ min c n) where
