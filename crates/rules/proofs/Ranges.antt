@@ -327,12 +327,12 @@ stored-room true false true true e = sym e
 stored-room true false false true e = sym e
 stored-room false a i true e = sym e
 
-offset-room : (last now : State) (ticks : ℕ) → (edges last now ticks) .counted ≡ true → now .transfer .offset < 8
+pub offset-room : (last now : State) (ticks : ℕ) → (edges last now ticks) .counted ≡ true → now .transfer .offset < 8
 unfolding edges beyondLimit limit
 offset-room last now ticks e =
     omega (arith, leb-false (limit (now .registers)) (now .transfer .offset) (counted-room (synchronousReq last now) (leb (limit (now .registers)) (now .transfer .offset)) _ e))
 
-scsi-room : (last now : State) (ticks : ℕ) → (edges last now ticks) .stored ≡ true → length (now .transfer .scsi) < 8
+pub scsi-room : (last now : State) (ticks : ℕ) → (edges last now ticks) .stored ≡ true → length (now .transfer .scsi) < 8
 unfolding edges beyondLimit
 scsi-room last now ticks e =
     leb-false 8 (length (now .transfer .scsi)) (stored-room (synchronousReq last now) (leb (limit (now .registers)) (now .transfer .offset)) (ioSeen (now .registers) (now .lines)) (leb 8 (length (now .transfer .scsi))) e)

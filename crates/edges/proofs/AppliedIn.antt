@@ -1,0 +1,48 @@
+-- The chip after B, read off the parts of the two chip values.
+use mathlib.Core.Path.{_≡_}
+use mathlib.Core.Bool.{Bool, not, _&&_}
+use Prim.Native.Nat.{ℕ}
+use Rattle.rules.specs.Seen.{mismatched, dataSeen}
+use Rattle.rules.specs.Chips.{pathView, pathOf, view, chipOf}
+use Rattle.rules.specs.Ranges.{Tidy}
+use Rattle.rules.specs.StepB.{registersB, transferB, phaseChanges, statusB, applied}
+use Rattle.rules.specs.declared.chip.Chip.{Chip}
+use Rattle.rules.specs.declared.chip.Edges.{Edges}
+use Rattle.rules.specs.declared.chip.DataPath.{DataPath}
+use Rattle.rules.specs.declared.chip.Status.{Status}
+use Rattle.rules.specs.declared.registers.Registers.{Registers}
+use Rattle.registers.specs.Acking.{acking}
+use Rattle.registers.proofs.Acking.{data-seen-acking}
+use Rattle.laws.proofs.Chips.{tidy-registers, tidy-stack, tidy-identity}
+
+unfoldable pub appliedIn : Edges → Chip → Chip → Chip
+appliedIn g last now =
+    let r = registersB (g .rstrises) (g .paritybad) (g .free) (now .registers) in
+    let t = pathView (now .path) in
+    record {
+      lines = now .lines;
+      registers = r;
+      path = pathOf (transferB g (dataSeen (now .registers) (now .lines) t) t);
+      status = statusB g (mismatched r (now .lines) && not (mismatched (last .registers) (last .lines))) (now .status);
+      latches = now .latches;
+      stack = now .stack;
+      quiet = g .quiet;
+      identity = now .identity;
+    }
+
+-- as the code puts it together
+pub applied-made : (g : Edges) (last now : Chip) {byte : ℕ} {r : Registers} {p : DataPath} {changes : Bool} {t : Status} → byte ≡ dataSeen (now .registers) (now .lines) (acking (now .path .ack) (now .path .last)) → r ≡ registersB (g .rstrises) (g .paritybad) (g .free) (now .registers) → p ≡ pathOf (transferB g byte (pathView (now .path))) → changes ≡ (mismatched r (now .lines) && not (mismatched (last .registers) (last .lines))) → t ≡ statusB g changes (now .status) → _≡_ {A = Chip} (record { lines = now .lines; registers = r; path = p; status = t; latches = now .latches; stack = now .stack; quiet = g .quiet; identity = now .identity }) (appliedIn g last now)
+unfolding appliedIn pathView
+applied-made g last now a b d e f =
+    let h = data-seen-acking (now .registers) (now .lines) (pathView (now .path)) in
+    cc
+
+-- it is that of the two states
+pub applied-in : (g : Edges) (last now : Chip) → Tidy last → Tidy now → appliedIn g last now ≡ chipOf (applied g (view last) (view now))
+unfolding view chipOf applied phaseChanges appliedIn
+applied-in g last now p q =
+    let a = tidy-registers last p in
+    let b = tidy-registers now q in
+    let k = tidy-stack now q in
+    let i = tidy-identity now q in
+    cc

@@ -1,0 +1,4 @@
+pub mod Laws
+pub mod EdgesIn
+pub mod AppliedIn
+pub mod Room

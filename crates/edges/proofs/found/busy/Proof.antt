@@ -1,0 +1,11 @@
+use Rattle.edges.proofs.Laws.{busy-after}
+use Rattle.edges.proofs.found.busy.Statement.{statement}
+use Rattle.edges.proofs.found.busy.Tie as tie
+
+returns : tie.Need-returns
+returns c =
+    let a = c .before .before .before .before .args in
+    busy-after (a .reset) (a .r) (a .l)
+
+pub busy-spec : {M : Type 1} → statement M
+busy-spec = tie.close (tie.spec returns)

@@ -1,0 +1,137 @@
+// Step D, what follows settling; then the latches.
+ghost use mathlib.Core.Path.{_≡_};
+ghost use Rattle.rules.specs.Chips.{view, chipOf, pathView};
+ghost use Rattle.rules.specs.Ranges.{Tidy};
+ghost use Rattle.rules.specs.Interrupts.{latched};
+ghost use Rattle.rules.specs.StepD.{fifoConflict, pioReady, statusRaised, statusD, latchesD};
+ghost use Rattle.registers.specs.Acking.{acking};
+ghost use Rattle.fifos.specs.Fifos.{PathTidy};
+ghost use Rattle.finish.specs.Finished.{finishedOf};
+use registers::bus::ack_seen;
+use registers::bus::automatic;
+use registers::bus::matched;
+use registers::bus::normal;
+use registers::bus::path;
+use rules::chip::Chip;
+use rules::chip::DataPath;
+use rules::chip::Latches;
+use rules::chip::Status;
+use rules::records::Lines;
+use rules::registers::Registers;
+
+// "Normal mode with DMAEN, SCSIEN and no path sets FWERR."
+fn fifo_conflict(r: Registers) -> bool
+    ensures { λ b. ⌜ b ≡ fifoConflict r ⌝ }
+{
+    normal(r) & r.sxfrctl0.scsien & !path(r)
+}
+
+// "Automatic mode, matched, REQ seen, automatic ACK off sets SPIORDY."
+fn pio_ready(r: Registers, l: Lines, ack: bool) -> bool
+    ensures { λ b. ⌜ b ≡ pioReady r l (acking ack 0) ⌝ }
+{
+    automatic(r) & matched(r, l) & l.req & !ack
+}
+
+// What each status rose to in the event.
+pub fn status_raised(r: Registers, l: Lines, ack: bool, b: Status) -> Status
+    ensures { λ n. ⌜ n ≡ statusRaised r l (acking ack 0) b ⌝ }
+{
+    let spiordy = pio_ready(r, l, ack) | b.spiordy;
+    let fwerr = fifo_conflict(r) | b.fwerr;
+    let mut n = b;
+    n.spiordy = spiordy;
+    n.fwerr = fwerr;
+    n
+}
+
+// "Each ACK ... clears REQINIT." "REQINIT also falls when ACK is seen."
+pub fn status_d(acks: u8, seen: bool, t: Status) -> Status
+    ensures { λ n. ⌜ n ≡ statusD acks seen t ⌝ }
+{
+    let reqinit = !(0 < acks) & !seen & t.reqinit;
+    let mut n = t;
+    n.reqinit = reqinit;
+    n
+}
+
+// A latch sets when its status rises while enabled, or when its enable rises while status is 1, and stays.
+fn latched(kept: bool, enable: bool, before: bool, status: bool, raised: bool) -> bool
+    ensures { λ b. ⌜ b ≡ latched kept enable before status raised ⌝ }
+{
+    kept | (enable & ((raised & !status) | (status & !before)))
+}
+
+pub fn latches_d(
+    before: Registers,
+    r: Registers,
+    status: Status,
+    raised: Status,
+    k: Latches,
+) -> Latches
+    ensures { λ n. ⌜ n ≡ latchesD before r status raised k ⌝ }
+{
+    let e = r.simode1;
+    let f = before.simode1;
+    Latches {
+        spiordy: latched(
+            k.spiordy,
+            r.simode0.enspiordy,
+            before.simode0.enspiordy,
+            status.spiordy,
+            raised.spiordy,
+        ),
+        scsirsti: latched(
+            k.scsirsti,
+            e.enscsirst,
+            f.enscsirst,
+            status.scsirsti,
+            raised.scsirsti,
+        ),
+        busfree: latched(
+            k.busfree,
+            e.enbusfree,
+            f.enbusfree,
+            status.busfree,
+            raised.busfree,
+        ),
+        scsiperr: latched(
+            k.scsiperr,
+            e.enscsiperr,
+            f.enscsiperr,
+            status.scsiperr,
+            raised.scsiperr,
+        ),
+        phasechg: latched(
+            k.phasechg,
+            e.enphasechg,
+            f.enphasechg,
+            status.phasechg,
+            raised.phasechg,
+        ),
+        reqinit: latched(
+            k.reqinit,
+            e.enreqinit,
+            f.enreqinit,
+            status.reqinit,
+            raised.reqinit,
+        ),
+    }
+}
+
+// The chip after D: before is the registers before the event, status that after A, b the chip after B, path what settling left.
+pub fn finished(before: Registers, status: Status, b: Chip, path: DataPath, acks: u8) -> Chip
+    requires { ⌜ Tidy b ⌝ }
+    requires { ⌜ PathTidy path ⌝ }
+    ensures { λ n. ⌜ n ≡ chipOf (finishedOf before status (view b) (pathView path) acks) ⌝ }
+{
+    let raised = status_raised(b.registers, b.lines, path.ack, b.status);
+    let seen = ack_seen(b.registers, b.lines, path.ack);
+    let t = status_d(acks, seen, raised);
+    let k = latches_d(before, b.registers, status, raised, b.latches);
+    let mut n = b;
+    n.path = path;
+    n.status = t;
+    n.latches = k;
+    n
+}
