@@ -27,7 +27,7 @@ use Rattle.rules.specs.StepC.{Settling, conditions, canMove, move, canHa
 use Rattle.rules.specs.StepD.{finished, afterD}
 use Rattle.rules.specs.Answers.{Stepped, controlDriven, answerOf, answerBytes}
 use Rattle.rules.specs.Step.{refused, done, access, stepEvent, stepDecoded, step, answer, after}
-use Rattle.rules.specs.Ranges.{TransferFits, RegistersFit, StackFits, InRange, Bytes, TransferBytes, RegistersBytes, InBytes}
+use Rattle.rules.specs.Ranges.{EventFits, DecodedFits, TransferFits, RegistersFit, StackFits, InRange, Bytes, TransferBytes, RegistersBytes, InBytes}
 use Rattle.rules.specs.declared.registers.Scsirate.{Scsirate}
 use Rattle.rules.specs.declared.registers.Scsiid.{Scsiid}
 use Rattle.rules.specs.declared.registers.Registers.{Registers}
@@ -98,21 +98,6 @@ one-fits false = omega arith
 pub byte-fits : (b7 b6 b5 b4 b3 b2 b1 b0 : Bool) → byteOf b7 b6 b5 b4 b3 b2 b1 b0 < 256
 byte-fits b7 b6 b5 b4 b3 b2 b1 b0 =
     omega (arith, one-fits b7, one-fits b6, one-fits b5, one-fits b4, one-fits b3, one-fits b2, one-fits b1, one-fits b0)
-
--- the fields of an event are in range
-abbrev pub EventFits : Event → Type 0
-EventFits PowerReset = Unit {0}
-EventFits (Write offset value) = (offset < 32) × (value < 256)
-EventFits (Read offset) = offset < 32
-EventFits (WordWrite word) = word < 65536
-EventFits WordRead = Unit {0}
-EventFits (Drive lines) = lines .byte < 256
-EventFits (Ticks n) = n < 16777216
-
--- what is decoded is in range
-abbrev pub DecodedFits : Decoded → Type 0
-DecodedFits (Well e) = EventFits e
-DecodedFits Ill = Unit {0}
 
 -- the event of each kind, where payload and offset are below their limits
 event-fits : (kind offset payload : ℕ) → payload < payloadLimit kind → offset < offsetLimit kind → DecodedFits (eventOf kind offset payload)

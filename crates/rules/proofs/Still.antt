@@ -20,7 +20,7 @@ use Rattle.rules.specs.StepC.{conditions, canMove, canHandshake, canSync
 use Rattle.rules.specs.StepD.{fifoConflict, pioReady, statusRaised, statusD, latchesD, finished, afterD}
 use Rattle.rules.specs.Answers.{Stepped}
 use Rattle.rules.specs.Step.{refused, done, access, stepEvent, stepDecoded, step, after}
-use Rattle.rules.specs.Ranges.{InRange}
+use Rattle.rules.specs.Ranges.{EventFits, DecodedFits, InRange}
 use Rattle.rules.specs.declared.registers.Registers.{Registers}
 use Rattle.rules.specs.declared.records.Event.{Event}
 use Rattle.rules.specs.declared.records.Event.the-variants.{PowerReset, Write, Read, WordWrite, WordRead, Drive, Ticks}
@@ -32,7 +32,7 @@ use Rattle.rules.specs.declared.chip.Latches.{Latches}
 use Rattle.rules.specs.declared.chip.Edges.{Edges}
 use Rattle.rules.proofs.Computes.{computes}
 use Rattle.rules.proofs.Logic.{never, cond-case}
-use Rattle.rules.proofs.Ranges.{EventFits, DecodedFits, decode-fits, after-b-fits, power-reset-fits, step-fits, always-in-range}
+use Rattle.rules.proofs.Ranges.{decode-fits, after-b-fits, power-reset-fits, step-fits, always-in-range}
 use Rattle.rules.proofs.Rest.{Resting, settle-rests, settling-rests}
 
 -- what holds at the end of every event, and lets 0 ticks change nothing

@@ -9,6 +9,10 @@ use Rattle.rules.specs.Chips.{view, chipOf}
 use Rattle.rules.specs.declared.registers.Registers.{Registers}
 use Rattle.rules.specs.declared.chip.Stack.{Stack}
 use Rattle.rules.specs.declared.chip.Chip.{Chip}
+use Rattle.rules.specs.declared.records.Event.{Event}
+use Rattle.rules.specs.declared.records.Event.the-variants.{PowerReset, Write, Read, WordWrite, WordRead, Drive, Ticks}
+use Rattle.rules.specs.declared.records.Decoded.{Decoded}
+use Rattle.rules.specs.declared.records.Decoded.the-variants.{Well, Ill}
 
 -- offset at most 8, SCSI FIFO at most 8, host FIFO at most 128, counter below 16,777,216
 pub record TransferFits (t : Transfer) : Type 0 where
@@ -60,3 +64,18 @@ pub record InBytes (s : State) : Type 0 where
   pub registers : RegistersBytes (s .registers)
   pub transfer : TransferBytes (s .transfer)
   pub stack : Bytes (s .stack .bytes)
+
+-- the fields of an event are in range
+abbrev pub EventFits : Event → Type 0
+EventFits PowerReset = Unit {0}
+EventFits (Write offset value) = (offset < 32) × (value < 256)
+EventFits (Read offset) = offset < 32
+EventFits (WordWrite word) = word < 65536
+EventFits WordRead = Unit {0}
+EventFits (Drive lines) = lines .byte < 256
+EventFits (Ticks n) = n < 16777216
+
+-- what is decoded is in range
+abbrev pub DecodedFits : Decoded → Type 0
+DecodedFits (Well e) = EventFits e
+DecodedFits Ill = Unit {0}
