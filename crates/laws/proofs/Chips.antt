@@ -1,7 +1,9 @@
 -- A tidy chip value: its parts are those of the state that it stands for.
 use mathlib.Core.Path.{_≡_, ap}
+use lib.ListN.{length}
 use Rattle.rules.specs.Chips.{pathOf, view, chipOf}
 use Rattle.rules.specs.Ranges.{Tidy}
+use Rattle.rules.specs.declared.chip.DataPath.{DataPath}
 use Rattle.rules.specs.declared.chip.Chip.{Chip}
 
 module _ (c : Chip) (t : Tidy c) where
@@ -24,3 +26,20 @@ module _ (c : Chip) (t : Tidy c) where
   pub tidy-identity : c .identity ≡ view c .identity
   unfolding chipOf
   tidy-identity = ap (λ (x : Chip). x .identity) (t .packed)
+
+  pub tidy-offset : c .path .offset ≡ view c .transfer .offset
+  unfolding pathOf
+  tidy-offset = ap (λ (p : DataPath). p .offset) tidy-path
+
+  pub tidy-counter : c .path .counter ≡ view c .transfer .counter
+  unfolding pathOf
+  tidy-counter = ap (λ (p : DataPath). p .counter) tidy-path
+
+  -- the counts are the lengths of what they show
+  pub tidy-host : c .path .host .count ≡ length (view c .transfer .host)
+  unfolding pathOf
+  tidy-host = ap (λ (p : DataPath). p .host .count) tidy-path
+
+  pub tidy-scsi : c .path .scsi .count ≡ length (view c .transfer .scsi)
+  unfolding pathOf
+  tidy-scsi = ap (λ (p : DataPath). p .scsi .count) tidy-path

@@ -13,22 +13,11 @@ ghost use Rattle.rules.specs.declared.codes.Code.the-variants.{Done};
 ghost use Rattle.step.specs.Outcomes.{outcomeOf, returnedOf};
 ghost use Rattle.step.specs.Runs.{IsRun};
 
+pub mod event;
 pub mod reset;
 
 use rules::chip::Chip;
 use rules::codes::Code;
-use rules::records::Decoded;
-use rules::records::Event;
-
-// What an event does: the new chip and what the answer says beside it.
-pub struct Outcome {
-    pub chip: Chip,
-    pub code: Code,
-    pub value: u16,
-    pub moves: u8,
-    pub acks: u8,
-    pub sent: [u8; 8],
-}
 
 // What a call returns.
 pub struct Returned {

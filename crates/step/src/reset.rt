@@ -3,7 +3,6 @@ ghost use mathlib.Core.Path.{_≡_};
 ghost use Prim.Native.Nat.{min};
 ghost use Rattle.rules.specs.State.{released, registersReset, statusReset, latchesReset, powerReset};
 ghost use Rattle.rules.specs.Chips.{pathView, pathOf, registersView, stackView, view, chipOf};
-
 use rules::chip::Chip;
 use rules::chip::DataPath;
 use rules::chip::Latches;
