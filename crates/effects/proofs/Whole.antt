@@ -17,7 +17,7 @@ use Rattle.rules.specs.declared.chip.Status.{Status}
 use Rattle.rules.specs.declared.chip.Latches.{Latches}
 use Rattle.rules.specs.declared.chip.Stack.{Stack}
 use Rattle.rules.specs.declared.chip.Chip.{Chip}
-use Rattle.effects.proofs.Tidy.{tidy-registers}
+use Rattle.laws.proofs.Chips.{tidy-registers}
 
 module _ (c : Chip) (t : Tidy c) (e : Event) where
   pub accessed : {b : Bool} → b ≡ (((writes e SCSIDAT && not (c .lines .io)) || (reads e SCSIDAT && c .lines .io)) && c .status .spiordy) → b ≡ latchAccess (view c) e

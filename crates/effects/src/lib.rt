@@ -12,9 +12,9 @@ ghost use Rattle.rules.specs.declared.codes.Code.the-variants.{Done};
 ghost use Rattle.rules.specs.declared.map.Register.the-variants.{SCSIDAT};
 
 pub mod events;
-pub mod flags;
-pub mod paths;
-pub mod storing;
+mod flags;
+mod paths;
+mod storing;
 
 use events::reads;
 use events::value_of;
@@ -87,6 +87,7 @@ fn identity_a(n: u8, e: Event) -> u8
     }
 }
 
+// The chip after the event's own effect.
 pub fn after_a(c: Chip, e: Event) -> Chip
     requires { ⌜ Tidy c ⌝ }
     requires { ⌜ accessCode (view c) e ≡ Done ⌝ }

@@ -6,12 +6,14 @@ use Rattle.rules.specs.StepA.{latchAccess, automaticAck, registersA, transferA,
 use Rattle.rules.specs.Chips.{pathView, pathOf, registersView, stackView, view}
 use Rattle.rules.specs.declared.registers.Registers.{Registers}
 use Rattle.rules.specs.declared.chip.Stack.{Stack}
-use Rattle.effects.proofs.Tidy.{tidy-registers, tidy-path, tidy-stack, tidy-quiet, tidy-identity, identity-below, done-room}
+use Rattle.laws.proofs.Chips.{tidy-registers, tidy-path, tidy-stack, tidy-quiet, tidy-identity}
+use Rattle.effects.proofs.Tidy.{identity-below, done-room}
 use Rattle.effects.proofs.Whole.{accessed, acked, chip-made}
 use Rattle.effects.proofs.after_a.Statement.{statement}
 use Rattle.effects.proofs.after_a.Tie as tie
 
 path-a-requires : tie.Need-path-a-requires
+unfolding view
 path-a-requires c κs =
     let a = c .before .before .before in
     (tidy-path (a .args .c) (a .pre .0), done-room (a .args .c) (a .args .e) (a .pre .1))
