@@ -1,0 +1,7 @@
+pub mod Access
+pub mod Along
+pub mod Settles
+pub mod Spared
+pub mod Stages
+pub mod WriteRun
+pub mod ReadRun
