@@ -5,3 +5,4 @@ pub mod Spared
 pub mod Stages
 pub mod WriteRun
 pub mod ReadRun
+pub mod Cut

@@ -43,16 +43,17 @@ pub held-at-start : (w : Bool) (s : State) → Starts w s → Held w (s .registe
 held-at-start w s h =
     record { direction = h .direction; spioen = path-spioen (s .registers) (h .opened); acko = h .acko }
 
-spioen-written : (b : Bool) (v : ℕ) (x : Sxfrctl0) → (b && bit v 3) ≡ false → x .spioen ≡ false → (cond b (sxfrctl0Of v) x) .spioen ≡ false
-spioen-written true v x q h = q
-spioen-written false v x q h = h
+-- a bit of 341h stays 0 where no write sets it
+pub stays-zero : (f : Sxfrctl0 → Bool) (b : Bool) (x y : Sxfrctl0) → (b && f x) ≡ false → f y ≡ false → f (cond b x y) ≡ false
+stays-zero f true x y q h = q
+stays-zero f false x y q h = h
 
 held-A : (w : Bool) (r : Registers) (e : Event) → Spared e → Held w r → Held w (registersA r e)
 unfolding registersA
 held-A w r e s h =
     record {
       direction = rw (s .control) (h .direction);
-      spioen = spioen-written (writes e SXFRCTL0) (valueOf e) (r .sxfrctl0) (s .spioen) (h .spioen);
+      spioen = stays-zero (λ x. x .spioen) (writes e SXFRCTL0) (sxfrctl0Of (valueOf e)) (r .sxfrctl0) (s .spioen) (h .spioen);
       acko = rw (s .signals) (h .acko);
     }
 

@@ -30,15 +30,15 @@ unfoldable pub calm : Event → Bool
 calm e = runAllows e && not (setsScsien e)
 
 -- the value that a read of the register got, where it got code 0
-unfoldable pub valueRead : Register → State → List ℕ → List ℕ
-valueRead r s bytes =
+unfoldable pub readAnswer : Register → State → List ℕ → List ℕ
+readAnswer r s bytes =
     cond (isDone ((step s bytes) .code) && says (λ e. reads e r) (decode bytes)) ((step s bytes) .value ∷ []) []
 
-abbrev pub valuesRead : Register → State → List (List ℕ) → List ℕ
-valuesRead r s records = along (valueRead r) s records
+abbrev pub readAnswers : Register → State → List (List ℕ) → List ℕ
+readAnswers r s records = along (readAnswer r) s records
 
 -- "The driver then reads the counter": the number that it makes of its three reads. "348h lowest"
 abbrev pub counterRead : State → List (List ℕ) → ℕ
 counterRead s records =
-    getD (valuesRead STCNT0 s records) 0 0 + 256 * getD (valuesRead STCNT1 s records) 0 0
-    + 65536 * getD (valuesRead STCNT2 s records) 0 0
+    getD (readAnswers STCNT0 s records) 0 0 + 256 * getD (readAnswers STCNT1 s records) 0 0
+    + 65536 * getD (readAnswers STCNT2 s records) 0 0

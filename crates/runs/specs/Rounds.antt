@@ -12,7 +12,7 @@ use Rattle.rules.specs.declared.codes.Code.the-variants.{Done}
 use Rattle.rules.specs.declared.map.Register.the-variants.{STCNT0, STCNT1, STCNT2}
 use Rattle.runs.specs.Comes.{says, allCome, eventBytes, along}
 use Rattle.runs.specs.Run.{Starts, runAllows, accepted, sentBy}
-use Rattle.runs.specs.Cut.{isCut, calm, valuesRead, counterRead}
+use Rattle.runs.specs.Cut.{isCut, calm, readAnswers, counterRead}
 use Rattle.runs.specs.Clearing.{allClear}
 
 -- "its port writes offer its data in order from the round's first byte, and a refused one is offered again before any later byte":
@@ -51,17 +51,21 @@ takenIn s r = along sentBy s (recordsOf r)
 abbrev pub numberRead : State → Round → ℕ
 numberRead s r = counterRead (afterCut s r) (r .reading)
 
--- a round from its start to the reading of the counter, as the paper has it; bytes is the driver's from the round's first byte
-pub record Follows (bytes : List ℕ) (s : State) (r : Round) : Type 0 where
+-- a run, its cut and the reading of the counter; "the cut and the three reads get code 0"
+pub record Proceeds (s : State) (r : Round) : Type 0 where
   pub start : Starts true s
   pub run : allCome runAllows s (r .run) ≡ true
-  pub offers : Offers bytes s (r .run)
   pub cut : says isCut (decode (r .cut)) ≡ true
   pub cutCode : (step (after s (r .run)) (r .cut)) .code ≡ Done
   pub reading : allCome calm (afterCut s r) (r .reading) ≡ true
-  pub low : 0 < length (valuesRead STCNT0 (afterCut s r) (r .reading))
-  pub middle : 0 < length (valuesRead STCNT1 (afterCut s r) (r .reading))
-  pub high : 0 < length (valuesRead STCNT2 (afterCut s r) (r .reading))
+  pub low : 0 < length (readAnswers STCNT0 (afterCut s r) (r .reading))
+  pub middle : 0 < length (readAnswers STCNT1 (afterCut s r) (r .reading))
+  pub high : 0 < length (readAnswers STCNT2 (afterCut s r) (r .reading))
+
+-- a round of a driver that has these bytes to send; the bound is the counter's
+pub record Follows (bytes : List ℕ) (s : State) (r : Round) : Type 0 where
+  pub proceeds : Proceeds s r
+  pub offers : Offers bytes s (r .run)
   pub bound : length (takenIn s r) ≤ 16777215
 
 -- any number of rounds; each goes on with the byte behind those that the counter named
