@@ -214,34 +214,11 @@ module _ (w : Bool) (r : Register) (k : ℕ) (there : readAt (offsetOf r) ≡ Pr
 counter-bytes : (n : ℕ) → n < 16777216 → counterByte 0 n + 256 * counterByte 1 n + 65536 * counterByte 2 n ≡ n
 counter-bytes n h = omega arith
 
-byte-0 : (s : State) → readOf s STCNT0 ≡ counterByte 0 (s .transfer .counter)
-unfolding readOf
-byte-0 s = refl
-
-byte-1 : (s : State) → readOf s STCNT1 ≡ counterByte 1 (s .transfer .counter)
-unfolding readOf
-byte-1 s = refl
-
-byte-2 : (s : State) → readOf s STCNT2 ≡ counterByte 2 (s .transfer .counter)
-unfolding readOf
-byte-2 s = refl
-
-there-0 : readAt (offsetOf STCNT0) ≡ Present STCNT0
-unfolding readAt table
-there-0 = refl
-
-there-1 : readAt (offsetOf STCNT1) ≡ Present STCNT1
-unfolding readAt table
-there-1 = refl
-
-there-2 : readAt (offsetOf STCNT2) ≡ Present STCNT2
-unfolding readAt table
-there-2 = refl
-
 -- the three reads give the counter
 pub counter-read : (w : Bool) (s : State) (records : List (List ℕ)) → s .registers .sxfrctl0 .scsien ≡ false → Held w (s .registers) → allCome calm s records ≡ true → 0 < length (readAnswers STCNT0 s records) → 0 < length (readAnswers STCNT1 s records) → 0 < length (readAnswers STCNT2 s records) → s .transfer .counter < 16777216 → counterRead s records ≡ s .transfer .counter
+unfolding readOf readAt table
 counter-read w s records o h q n0 n1 n2 small =
-    rw (byte-read w STCNT0 0 there-0 byte-0 s records o h q n0, byte-read w STCNT1 1 there-1 byte-1 s records o h q n1, byte-read w STCNT2 2 there-2 byte-2 s records o h q n2)
+    rw (byte-read w STCNT0 0 refl (λ s. refl) s records o h q n0, byte-read w STCNT1 1 refl (λ s. refl) s records o h q n1, byte-read w STCNT2 2 refl (λ s. refl) s records o h q n2)
     (counter-bytes (s .transfer .counter) small)
 
 -- what may come after the cut may come in a run
@@ -287,7 +264,7 @@ pub record CutAndRead (s : State) (r : Round) : Type 0 where
   pub off : (afterReading s r) .registers .sxfrctl0 .scsien ≡ false
   pub moment : WriteMoment (afterReading s r) (along accepted s (recordsOf r)) (takenIn s r)
 
-front : (a b c : List ℕ) → a ++ b ≡ c → a ≡ take (length a) c
+pub front : (a b c : List ℕ) → a ++ b ≡ c → a ≡ take (length a) c
 front a b c h = sym (take-append-seam a b) ∙ ap (λ (x : List ℕ). take (length a) x) h
 
 -- THE CUT: the three reads give the number of bytes taken, and those are the first so many bytes that the port accepted

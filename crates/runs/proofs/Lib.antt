@@ -6,3 +6,4 @@ pub mod Stages
 pub mod WriteRun
 pub mod ReadRun
 pub mod Cut
+pub mod Rounds
