@@ -7,3 +7,4 @@ pub mod WriteRun
 pub mod ReadRun
 pub mod Cut
 pub mod Rounds
+pub mod Clearing
