@@ -6,5 +6,6 @@ pub mod Stages
 pub mod WriteRun
 pub mod ReadRun
 pub mod Cut
-pub mod Rounds
 pub mod Clearing
+pub mod Sequence
+pub mod Rounds

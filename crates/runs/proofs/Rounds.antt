@@ -15,7 +15,9 @@ use Rattle.rules.specs.declared.codes.Code.{Code}
 use Rattle.rules.specs.declared.records.Decoded.{Decoded}
 use Rattle.runs.specs.Comes.{isRefusal, eventBytes, unlessRefused, along}
 use Rattle.runs.specs.Run.{accepted, sentBy}
-use Rattle.runs.specs.Rounds.{Offers, Round, recordsOf, afterCut, afterReading, afterRound, takenIn, numberRead, Proceeds, Follows, Chain, taken, reached}
+use Rattle.runs.specs.Rounds.{Offers, Round, recordsOf, afterCut, afterReading, afterRound, takenIn, numberRead, Proceeds, Follows, Chain, taken, reached, AllCleared, allRecords}
+use Rattle.runs.proofs.Along.{after-append, along-append}
+use Rattle.runs.proofs.Clearing.{clearing-sends-nothing}
 use Rattle.runs.proofs.WriteRun.{WriteMoment, write-run}
 use Rattle.runs.proofs.Cut.{CutAndRead, cut-and-read, front}
 
@@ -79,3 +81,13 @@ chain-reached whole first s [] h = sym (add-zero first)
 chain-reached whole first s (r ∷ more) h =
     let n = (round (drop first whole) s r (h .0)) .number in
     chain-reached whole (first + numberRead s r) (afterRound s r) more (h .1) ∙ rw (length-append, n) (omega arith)
+
+-- where every clearing keeps the paper's condition, no byte is sent but those taken in runs
+pub only-taken-is-sent : (s : State) (rounds : List Round) → AllCleared s rounds → along sentBy s (allRecords rounds) ≡ taken s rounds
+only-taken-is-sent s [] h = refl
+only-taken-is-sent s (r ∷ more) h =
+    along-append sentBy s (recordsOf r) (r .clearing ++ allRecords more)
+    ∙ ap (λ (x : List ℕ). takenIn s r ++ x)
+    (ap (λ (x : State). along sentBy x (r .clearing ++ allRecords more)) (after-append s (r .run) (r .cut ∷ r .reading))
+    ∙ along-append sentBy (afterReading s r) (r .clearing) (allRecords more)
+    ∙ rw (clearing-sends-nothing (afterReading s r) (r .clearing) (h .0)) (only-taken-is-sent (afterRound s r) more (h .1)))

@@ -90,4 +90,4 @@ AllCleared s (r ∷ more) = (allClear (afterReading s r) (r .clearing) ≡ true)
 -- all records of the rounds, clearings included
 abbrev pub allRecords : List Round → List (List ℕ)
 allRecords [] = []
-allRecords (r ∷ more) = recordsOf r ++ r .clearing ++ allRecords more
+allRecords (r ∷ more) = recordsOf r ++ (r .clearing ++ allRecords more)
