@@ -1,6 +1,6 @@
 -- The concrete clearing reaches the start of a run, whatever the lines are.
 use mathlib.Core.Path.{_≡_, refl, sym, _∙_, ap}
-use mathlib.Core.Bool.{Bool, true, false, not, _&&_, _||_, cond, and-false}
+use mathlib.Core.Bool.{Bool, true, false, not, _&&_, _||_, cond, and-false, or-true}
 use mathlib.Core.List.{List, [], _∷_, _++_}
 use Prim.Native.Nat.{ℕ, _+_, _≤_}
 use native.Mathlib.Omega.{arith}
@@ -28,8 +28,8 @@ use Rattle.rules.specs.declared.records.Event.{Event}
 use Rattle.rules.specs.declared.records.Event.the-variants.{Write}
 use Rattle.rules.specs.declared.records.Decoded.{Decoded}
 use Rattle.rules.specs.declared.records.Decoded.the-variants.{Well}
-use Rattle.runs.specs.Run.{Starts}
-use Rattle.runs.specs.Clearing.{switchedOff, bothEmpty, clears, allClear, writeRecord, clearingOf}
+use Rattle.runs.specs.Run.{Starts, accepted}
+use Rattle.runs.specs.Clearing.{switchedOff, bothEmpty, clears, allClear, allDone, writeRecord, clearingOf}
 use Rattle.runs.proofs.Settles.{settle-still, no-path-no-move, disabled-no-handshake, empty-no-move, empty-no-handshake}
 
 -- a register write brings no edge of REQ
@@ -54,6 +54,16 @@ module _ (s : State) (offset value : ℕ) where
   unfolding edgesOf edges synchronousReq
   not-beyond = rw no-req
 
+-- Manual mode with SCSIEN 0
+record ManualMode (r : Registers) : Type 0 where
+  scsien : r .sxfrctl0 .scsien ≡ false
+  dmaen : r .sxfrctl0 .dmaen ≡ false
+  spioen : r .sxfrctl0 .spioen ≡ false
+
+mode-B : (s : State) (e : Event) → ManualMode ((afterA s e) .registers) → ManualMode ((afterB s e) .registers)
+unfolding afterB applied registersB
+mode-B s e m = record { scsien = rw (m .scsien) (and-false (not ((edgesOf s e) .rstrises))); dmaen = m .dmaen; spioen = m .spioen }
+
 -- in Manual mode settling changes nothing
 manual-no-path : (r : Registers) → r .sxfrctl0 .dmaen ≡ false → path r ≡ false
 unfolding path normal
@@ -63,15 +73,15 @@ no-path-disables : (s : State) → path (s .registers) ≡ false → (conditions
 unfolding conditions
 no-path-disables s h = rw (h, and-false)
 
-pub manual-settles : (s : State) (e : Event) → (afterB s e) .registers .sxfrctl0 .dmaen ≡ false → settledC s e ≡ started (afterB s e)
+manual-settles : (s : State) (e : Event) → ManualMode ((afterB s e) .registers) → settledC s e ≡ started (afterB s e)
 unfolding settledC conditions started
-manual-settles s e h =
-    let p = manual-no-path ((afterB s e) .registers) h in
+manual-settles s e m =
+    let p = manual-no-path ((afterB s e) .registers) (m .dmaen) in
     settle-still (conditions (afterB s e)) (started (afterB s e)) (no-path-no-move (conditions (afterB s e)) ((afterB s e) .transfer) p)
     (disabled-no-handshake (conditions (afterB s e)) ((afterB s e) .transfer) (no-path-disables (afterB s e) p)) turns
 
 -- outbound with both FIFOs empty it changes nothing either
-pub empty-settles : (s : State) (e : Event) → (afterB s e) .registers .dmacntrl0 .write ≡ true → (afterB s e) .transfer .host ≡ [] → (afterB s e) .transfer .scsi ≡ [] → settledC s e ≡ started (afterB s e)
+empty-settles : (s : State) (e : Event) → (afterB s e) .registers .dmacntrl0 .write ≡ true → (afterB s e) .transfer .host ≡ [] → (afterB s e) .transfer .scsi ≡ [] → settledC s e ≡ started (afterB s e)
 unfolding settledC conditions started
 empty-settles s e w h k =
     settle-still (conditions (afterB s e)) (started (afterB s e)) (empty-no-move (conditions (afterB s e)) ((afterB s e) .transfer) w h)
@@ -150,12 +160,12 @@ plain-open = record { decoded = refl; present = refl; untested = refl; portless 
 -- 341h with 00h: Manual mode, and the host FIFO as it was
 record Manual (s : State) : Type 0 where
   room : length (s .transfer .host) ≤ 128
-  dmaen : s .registers .sxfrctl0 .dmaen ≡ false
+  mode : ManualMode (s .registers)
 
 module _ (s : State) (room : length (s .transfer .host) ≤ 128) where
-  manual-B : (afterB s (Write 0x01 0x00)) .registers .sxfrctl0 .dmaen ≡ false
-  unfolding afterB applied registersB afterA registersA writes valueOf
-  manual-B = refl
+  manual-A : ManualMode ((afterA s (Write 0x01 0x00)) .registers)
+  unfolding afterA registersA writes valueOf
+  manual-A = record { scsien = refl; dmaen = refl; spioen = refl }
 
   manual-host : (afterB s (Write 0x01 0x00)) .transfer .host ≡ s .transfer .host
   unfolding afterB applied transferB afterA transferA hostA rstfifo writes portWrite asked
@@ -163,22 +173,23 @@ module _ (s : State) (room : length (s .transfer .host) ≤ 128) where
 
   after-manual : Manual ((step s (writeRecord SXFRCTL0 0x00)) .state)
   after-manual =
-      let rest = manual-settles s (Write 0x01 0x00) manual-B in
+      let mode = mode-B s (Write 0x01 0x00) manual-A in
+      let rest = manual-settles s (Write 0x01 0x00) mode in
       record {
         room = rw (after-transfer s SXFRCTL0 0x00 plain-manual room rest, manual-host) room;
-        dmaen = rw (after-registers s SXFRCTL0 0x00 plain-manual room rest) manual-B;
+        mode = rw (after-registers s SXFRCTL0 0x00 plain-manual room rest) mode;
       }
 
 -- 352h with RSTFIFO and WRITE
 record Emptied (s : State) : Type 0 where
   host : s .transfer .host ≡ []
-  dmaen : s .registers .sxfrctl0 .dmaen ≡ false
+  mode : ManualMode (s .registers)
   write : s .registers .dmacntrl0 .write ≡ true
 
 module _ (s : State) (m : Manual s) (eightbit : Bool) where
-  emptied-B : (afterB s (Write 0x12 (control eightbit))) .registers .sxfrctl0 .dmaen ≡ false
-  unfolding afterB applied registersB afterA registersA writes valueOf
-  emptied-B = m .dmaen
+  emptied-A : ManualMode ((afterA s (Write 0x12 (control eightbit))) .registers)
+  unfolding afterA registersA writes valueOf
+  emptied-A = record { scsien = m .mode .scsien; dmaen = m .mode .dmaen; spioen = m .mode .spioen }
 
   emptied-write : (afterB s (Write 0x12 (control eightbit))) .registers .dmacntrl0 .write ≡ true
   unfolding afterB applied registersB afterA registersA writes valueOf
@@ -198,11 +209,12 @@ module _ (s : State) (m : Manual s) (eightbit : Bool) where
 
   after-emptied : Emptied ((step s (writeRecord DMACNTRL0 (control eightbit))) .state)
   after-emptied =
-      let rest = manual-settles s (Write 0x12 (control eightbit)) emptied-B in
+      let mode = mode-B s (Write 0x12 (control eightbit)) emptied-A in
+      let rest = manual-settles s (Write 0x12 (control eightbit)) mode in
       let p = plain-control eightbit in
       record {
         host = rw (after-transfer s DMACNTRL0 (control eightbit) p (m .room) rest) emptied-host;
-        dmaen = rw (after-registers s DMACNTRL0 (control eightbit) p (m .room) rest) emptied-B;
+        mode = rw (after-registers s DMACNTRL0 (control eightbit) p (m .room) rest) mode;
         write = rw (after-registers s DMACNTRL0 (control eightbit) p (m .room) rest) emptied-write;
       }
 
@@ -212,7 +224,7 @@ record Zeroed (s : State) : Type 0 where
   scsi : s .transfer .scsi ≡ []
   counter : s .transfer .counter ≡ 0
   offset : s .transfer .offset ≡ 0
-  dmaen : s .registers .sxfrctl0 .dmaen ≡ false
+  mode : ManualMode (s .registers)
   write : s .registers .dmacntrl0 .write ≡ true
 
 -- an offset of 0 stays 0 where no REQ is counted
@@ -241,9 +253,13 @@ module _ (s : State) (m : Emptied s) where
   zeroed-room : length (s .transfer .host) ≤ 128
   zeroed-room = rw (m .host) (omega arith)
 
-  zeroed-registers : ((afterB s (Write 0x01 0x12)) .registers .sxfrctl0 .dmaen ≡ false) × ((afterB s (Write 0x01 0x12)) .registers .dmacntrl0 .write ≡ true)
+  zeroed-mode : ManualMode ((afterA s (Write 0x01 0x12)) .registers)
+  unfolding afterA registersA writes valueOf
+  zeroed-mode = record { scsien = refl; dmaen = refl; spioen = refl }
+
+  zeroed-write : (afterB s (Write 0x01 0x12)) .registers .dmacntrl0 .write ≡ true
   unfolding afterB applied registersB afterA registersA writes valueOf
-  zeroed-registers = (refl, m .write)
+  zeroed-write = m .write
 
   zeroed-A : ((afterA s (Write 0x01 0x12)) .transfer .scsi ≡ []) × ((afterA s (Write 0x01 0x12)) .transfer .offset ≡ 0)
   unfolding afterA transferA clrch writes valueOf
@@ -255,7 +271,8 @@ module _ (s : State) (m : Emptied s) where
 
   after-zeroed : Zeroed ((step s (writeRecord SXFRCTL0 0x12)) .state)
   after-zeroed =
-      let rest = manual-settles s (Write 0x01 0x12) (zeroed-registers .0) in
+      let mode = mode-B s (Write 0x01 0x12) zeroed-mode in
+      let rest = manual-settles s (Write 0x01 0x12) mode in
       let transfer = after-transfer s SXFRCTL0 0x12 plain-clear zeroed-room rest in
       let registers = after-registers s SXFRCTL0 0x12 plain-clear zeroed-room rest in
       record {
@@ -263,8 +280,8 @@ module _ (s : State) (m : Emptied s) where
         scsi = rw transfer (scsi-B s 0x01 0x12 ∙ zeroed-A .0);
         counter = rw transfer (zeroed-B .1);
         offset = rw transfer (offset-B s 0x01 0x12 (zeroed-A .1));
-        dmaen = rw registers (zeroed-registers .0);
-        write = rw registers (zeroed-registers .1);
+        mode = rw registers mode;
+        write = rw registers zeroed-write;
       }
 
 -- 343h with ACKO 0 and IOEXP 0
@@ -277,9 +294,13 @@ module _ (s : State) (m : Zeroed s) where
   ready-room : length (s .transfer .host) ≤ 128
   ready-room = rw (m .host) (omega arith)
 
-  ready-registers : ((afterB s (Write 0x03 0x00)) .registers .sxfrctl0 .dmaen ≡ false) × ((afterB s (Write 0x03 0x00)) .registers .dmacntrl0 .write ≡ true)
+  ready-mode : ManualMode ((afterA s (Write 0x03 0x00)) .registers)
+  unfolding afterA registersA writes valueOf
+  ready-mode = record { scsien = m .mode .scsien; dmaen = m .mode .dmaen; spioen = m .mode .spioen }
+
+  ready-write : (afterB s (Write 0x03 0x00)) .registers .dmacntrl0 .write ≡ true
   unfolding afterB applied registersB afterA registersA writes valueOf
-  ready-registers = (m .dmaen, m .write)
+  ready-write = m .write
 
   ready-signals : ((afterA s (Write 0x03 0x00)) .registers .scsisig .ioexp ≡ false) × ((afterA s (Write 0x03 0x00)) .registers .scsisig .acko ≡ false)
   unfolding afterA registersA writes valueOf
@@ -295,7 +316,8 @@ module _ (s : State) (m : Zeroed s) where
 
   after-ready : Ready ((step s (writeRecord SCSISIGO 0x00)) .state)
   after-ready =
-      let rest = manual-settles s (Write 0x03 0x00) (ready-registers .0) in
+      let mode = mode-B s (Write 0x03 0x00) ready-mode in
+      let rest = manual-settles s (Write 0x03 0x00) mode in
       let transfer = after-transfer s SCSISIGO 0x00 plain-signals ready-room rest in
       let registers = after-registers s SCSISIGO 0x00 plain-signals ready-room rest in
       record {
@@ -305,8 +327,8 @@ module _ (s : State) (m : Zeroed s) where
               scsi = rw transfer (scsi-B s 0x03 0x00 ∙ ready-A .0);
               counter = rw transfer (ready-B .1);
               offset = rw transfer (offset-B s 0x03 0x00 (ready-A .1));
-              dmaen = rw registers (ready-registers .0);
-              write = rw registers (ready-registers .1);
+              mode = rw registers mode;
+              write = rw registers ready-write;
             };
         ioexp = rw registers (ioexp-B s (Write 0x03 0x00) (ready-signals .0));
         acko = rw registers (acko-B s (Write 0x03 0x00) (ready-signals .1));
@@ -356,12 +378,46 @@ module _ (s : State) (m : Ready s) where
         direction = rw registers (open-registers .0);
       }
 
--- THE CLEARING THAT A DRIVER CAN USE reaches the start of a write run from every state whose host FIFO is in range
-pub clearing-reaches-start : (s : State) (eightbit : Bool) → length (s .transfer .host) ≤ 128 → Starts true (after s (clearingOf eightbit))
+-- Manual mode with SCSIEN 0 is within the paper's condition
+mode-clears : (s : State) (bytes : List ℕ) → ManualMode ((step s bytes) .state .registers) → clears s bytes ≡ true
+unfolding clears switchedOff
+mode-clears s bytes m = rw (m .scsien, m .spioen)
+
+-- and so is the opening of the path on empty FIFOs
+ready-empty : (s : State) → Ready s → bothEmpty s ≡ true
+unfolding bothEmpty
+ready-empty s m = rw (m .zeroed .host, m .zeroed .scsi)
+
+open-takes-none : (s : State) → Ready s → accepted s (writeRecord SXFRCTL0 0xE0) ≡ []
+open-takes-none s m = rw (write-answers s SXFRCTL0 0xE0 plain-open (open-room s m), plain-open .decoded) (plain-open .offers)
+
+open-clears : (s : State) → Ready s → clears s (writeRecord SXFRCTL0 0xE0) ≡ true
+unfolding clears
+open-clears s m =
+    rw (ready-empty s m, open-takes-none s m) (or-true (switchedOff ((step s (writeRecord SXFRCTL0 0xE0)) .state)))
+
+pub record ClearingWorks (s : State) (eightbit : Bool) : Type 0 where
+  pub starts : Starts true (after s (clearingOf eightbit))
+  pub allowed : allClear s (clearingOf eightbit) ≡ true
+  pub answered : allDone s (clearingOf eightbit) ≡ true
+
+-- THE CLEARING THAT A DRIVER CAN USE: it reaches the start of a write run from every state whose host FIFO holds at most 128 bytes,
+-- whatever the lines are; it keeps the paper's condition, and each of its records gets code 0
+pub clearing-works : (s : State) (eightbit : Bool) → length (s .transfer .host) ≤ 128 → ClearingWorks s eightbit
 unfolding clearingOf
-clearing-reaches-start s eightbit room =
+clearing-works s eightbit room =
+    let s1 : State = (step s (writeRecord SXFRCTL0 0x00)) .state in
+    let s2 : State = (step s1 (writeRecord DMACNTRL0 (control eightbit))) .state in
+    let s3 : State = (step s2 (writeRecord SXFRCTL0 0x12)) .state in
+    let s4 : State = (step s3 (writeRecord SCSISIGO 0x00)) .state in
     let a = after-manual s room in
-    let b = after-emptied _ a eightbit in
-    let c = after-zeroed _ b in
-    let d = after-ready _ c in
-    after-open _ d
+    let b = after-emptied s1 a eightbit in
+    let c = after-zeroed s2 b in
+    let d = after-ready s3 c in
+    record {
+      starts = after-open s4 d;
+      allowed =
+          rw (mode-clears s _ (a .mode), mode-clears s1 _ (b .mode), mode-clears s2 _ (c .mode), mode-clears s3 _ (d .zeroed .mode), open-clears s4 d);
+      answered =
+          rw (write-answers s SXFRCTL0 0x00 plain-manual room, write-answers s1 DMACNTRL0 (control eightbit) (plain-control eightbit) (a .room), write-answers s2 SXFRCTL0 0x12 plain-clear (zeroed-room s2 b), write-answers s3 SCSISIGO 0x00 plain-signals (ready-room s3 c), write-answers s4 SXFRCTL0 0xE0 plain-open (open-room s4 d));
+    }

@@ -6,6 +6,7 @@ use lib.Dec.{eqb}
 use lib.ListN.{length}
 use Rattle.rules.specs.Map.{offsetOf}
 use Rattle.rules.specs.State.{State}
+use Rattle.rules.specs.Codes.{isDone}
 use Rattle.rules.specs.Step.{step}
 use Rattle.rules.specs.declared.map.Register.{Register}
 use Rattle.rules.specs.declared.map.Register.the-variants.{SXFRCTL0, SCSISIGO, DMACNTRL0}
@@ -26,6 +27,11 @@ clears s bytes = switchedOff ((step s bytes) .state) || (bothEmpty s && eqb (len
 abbrev pub allClear : State → List (List ℕ) → Bool
 allClear s [] = true
 allClear s (bytes ∷ more) = clears s bytes && allClear ((step s bytes) .state) more
+
+-- every record gets code 0
+abbrev pub allDone : State → List (List ℕ) → Bool
+allDone s [] = true
+allDone s (bytes ∷ more) = isDone ((step s bytes) .code) && allDone ((step s bytes) .state) more
 
 -- the record of a register write: kind 1, the offset, the value
 abbrev pub writeRecord : Register → ℕ → List ℕ
