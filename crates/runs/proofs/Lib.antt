@@ -9,3 +9,5 @@ pub mod Cut
 pub mod Clearing
 pub mod Sequence
 pub mod Rounds
+pub mod Tests
+pub mod Examples

@@ -18,6 +18,7 @@ use Rattle.runs.specs.Run.{accepted, sentBy}
 use Rattle.runs.specs.Rounds.{Offers, Round, recordsOf, afterCut, afterReading, afterRound, takenIn, numberRead, Proceeds, Follows, Chain, taken, reached, AllCleared, allRecords}
 use Rattle.runs.proofs.Along.{after-append, along-append}
 use Rattle.runs.proofs.Clearing.{clearing-sends-nothing}
+use Rattle.runs.proofs.Sequence.{ClearingWorks, clearing-works}
 use Rattle.runs.proofs.WriteRun.{WriteMoment, write-run}
 use Rattle.runs.proofs.Cut.{CutAndRead, cut-and-read, front}
 
@@ -91,3 +92,11 @@ only-taken-is-sent s (r ∷ more) h =
     (ap (λ (x : State). along sentBy x (r .clearing ++ allRecords more)) (after-append s (r .run) (r .cut ∷ r .reading))
     ∙ along-append sentBy (afterReading s r) (r .clearing) (allRecords more)
     ∙ rw (clearing-sends-nothing (afterReading s r) (r .clearing) (h .0)) (only-taken-is-sent (afterRound s r) more (h .1)))
+
+-- after a cut the concrete clearing is always there
+pub clearing-after-cut : (s : State) (r : Round) → Proceeds s r → (eightbit : Bool) → ClearingWorks (afterReading s r) eightbit
+clearing-after-cut s r p eightbit = clearing-works (afterReading s r) eightbit (cut-and-read s r p .moment .room)
+
+-- AT THE BOUND: a round of 16,777,216 bytes reads 0, and the driver would begin again with the bytes that the target has taken
+pub at-the-bound : (s : State) (r : Round) → Proceeds s r → length (takenIn s r) ≡ 16777216 → numberRead s r ≡ 0
+at-the-bound s r p h = cut-and-read s r p .number ∙ ap (λ (n : ℕ). n % 16777216) h
