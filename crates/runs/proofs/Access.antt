@@ -41,9 +41,11 @@ refusal s e h = firstOf-refuses (absent e) (testValue e) (shut (s .registers) e)
 pub record Passed (s : State) (e : Event) : Type 0 where
   pub open′ : shut (s .registers) e ≡ false
   pub room : noRoom s e ≡ false
+  pub bytes : noBytes s e ≡ false
 
-firstOf-passes : (a b c d f : Bool) → isDone (firstOf a b c d f) ≡ true → (c ≡ false) × (d ≡ false)
-firstOf-passes false false false false f h = (refl, refl)
+firstOf-passes : (a b c d f : Bool) → isDone (firstOf a b c d f) ≡ true → (c ≡ false) × (d ≡ false) × (f ≡ false)
+firstOf-passes false false false false false h = (refl, refl, refl)
+firstOf-passes false false false false true h = absurd (never h)
 firstOf-passes true b c d f h = absurd (never h)
 firstOf-passes false true c d f h = absurd (never h)
 firstOf-passes false false true d f h = absurd (never h)
@@ -53,7 +55,7 @@ pub passed : (s : State) (e : Event) → isDone (accessCode s e) ≡ true → Pa
 unfolding accessCode
 passed s e h =
     let p = firstOf-passes (absent e) (testValue e) (shut (s .registers) e) (noRoom s e) (noBytes s e) h in
-    record { open′ = p .0; room = p .1 }
+    record { open′ = p .0; room = p .1; bytes = p .2 }
 
 -- a step that is done is no refusal
 pub done-code : (s : State) (e : Event) → isRefusal ((done s e) .code) ≡ false

@@ -91,7 +91,7 @@ module _ (w : Bool) (s : State) (o : s .registers .sxfrctl0 .scsien ≡ false) (
   calm-refused d code value q = record { off = o; held = h; same = refl; none = refl }
 
   pub step-quiet : (bytes : List ℕ) → mayCome calm s bytes ≡ true → Quiet w s ((step s bytes) .state) (sentBy s bytes)
-  unfolding calm runAllows
+  unfolding calm
   step-quiet =
       come-law calm refl s (λ d r. Quiet w s (r .state) (r .sent)) calm-refused
       (λ e c q. done-quiet w s e (spared e (calm-allowed e c)) h (calm-A s e c o))
@@ -112,7 +112,7 @@ cut-at offset value h =
     rw (eqb-true offset (offsetOf SXFRCTL0) q) k
 
 pub cut-allowed : (e : Event) → isCut e ≡ true → runAllows e ≡ true
-unfolding isCut runAllows writes valueOf
+unfolding isCut writes valueOf
 cut-allowed PowerReset h = h
 cut-allowed (Write offset value) h = cut-at offset value h
 cut-allowed (Read offset) h = refl

@@ -11,17 +11,17 @@ use Rattle.rules.proofs.Computes.{computes}
 use Rattle.runs.specs.Comes.{mayCome, along}
 use Rattle.runs.specs.Run.{Starts, keepsRun, writeAllowed, runAllows, sentBy}
 use Rattle.runs.specs.Cut.{cutValue, isCut, setsScsien, calm, readAnswer}
-use Rattle.runs.specs.Clearing.{switchedOff, bothEmpty, clears, writeRecord, clearingOf}
+use Rattle.runs.specs.Clearing.{switchedOff, bothEmpty, mayClear, writeRecord, clearingOf}
 use Rattle.runs.specs.Rounds.{Round, Chain, taken, reached, AllCleared}
 use Rattle.runs.proofs.Tests.{chain-by-test, cleared-by-test}
 
 -- one name opens all that a chain is made of
 unfoldable pub follows : ℕ
-unfolding computes mayCome keepsRun writeAllowed runAllows cutValue isCut setsScsien calm readAnswer switchedOff bothEmpty clears clearingOf
+unfolding computes mayCome keepsRun writeAllowed cutValue isCut setsScsien calm readAnswer switchedOff bothEmpty mayClear clearingOf
 follows = 0
 
 -- records, each written as one number
-abbrev records : List ℕ → List (List ℕ)
+abbrev pub records : List ℕ → List (List ℕ)
 records [] = []
 records (n ∷ more) = bytesOf 4 n ∷ records more
 

@@ -2,14 +2,18 @@
 use mathlib.Core.Path.{_≡_, refl, sym, _∙_, ap, ap₂}
 use mathlib.Core.Bool.{Bool, true, false, _&&_, _||_, cond}
 use mathlib.Core.List.{List, [], _∷_, _++_, append-assoc, append-nil}
-use Prim.Native.Nat.{ℕ, _+_, _%_, _≤_}
-use native.Mathlib.Nat.{add-zero}
+use Prim.Native.Nat.{ℕ, _+_, _*_, _≤_}
 use native.Mathlib.Omega.{arith}
-use lib.ListN.{length, take, drop, replicate, length-append, take-append-drop}
-use Rattle.rules.specs.State.{State}
+use lib.Dec.{eqb}
+use lib.ListN.{length, take, drop, getD, replicate, take-append-drop}
+use borrow.Author.Tests.{eqb-true, ltb-false}
+use Rattle.rules.specs.State.{State, powerReset}
+use Rattle.rules.specs.Records.{decode}
+use Rattle.rules.specs.Map.{table, readAt}
+use Rattle.rules.specs.Reads.{readOf, readMapped, valueRead}
 use Rattle.rules.specs.Seen.{dataSeen}
-use Rattle.rules.specs.Events.{asked}
-use Rattle.rules.specs.Codes.{accessCode, isDone}
+use Rattle.rules.specs.Events.{asked, portRead}
+use Rattle.rules.specs.Codes.{noBytes, accessCode, isDone}
 use Rattle.rules.specs.StepA.{transferA, afterA}
 use Rattle.rules.specs.StepB.{transferB, applied, edgesOf, afterB}
 use Rattle.rules.specs.StepC.{Settling, conditions, started, turns, settledC}
@@ -17,13 +21,15 @@ use Rattle.rules.specs.StepD.{finished, afterD}
 use Rattle.rules.specs.Answers.{Stepped}
 use Rattle.rules.specs.Step.{refused, done, step, after}
 use Rattle.rules.specs.declared.codes.Code.{Code}
+use Rattle.rules.specs.declared.codes.Code.the-variants.{Done}
 use Rattle.rules.specs.declared.records.Event.{Event}
+use Rattle.rules.specs.declared.records.Event.the-variants.{PowerReset, Write, Read, WordWrite, WordRead, Drive, Ticks}
 use Rattle.rules.specs.declared.records.Decoded.{Decoded}
 use Rattle.rules.specs.declared.records.Decoded.the-variants.{Well}
-use Rattle.rules.proofs.Logic.{left-true, right-true}
-use Rattle.runs.specs.Comes.{isRefusal, mayCome, allCome, unlessRefused, along, acksAlong}
+use Rattle.rules.proofs.Logic.{never}
+use Rattle.runs.specs.Comes.{isRefusal, says, mayCome, allCome, unlessRefused, along}
 use Rattle.runs.specs.Run.{Starts, runAllows, hostRead, tookAtReq, tookByHandshakes, chipTook}
-use Rattle.runs.proofs.Access.{Passed, passed, done-code, come-law}
+use Rattle.runs.proofs.Access.{Passed, passed, done-code, step-law, come-law}
 use Rattle.runs.proofs.Along.{along-law}
 use Rattle.runs.proofs.Settles.{storedBy, Inbound, inbound-settles}
 use Rattle.runs.proofs.Spared.{Spared, spared}
@@ -111,7 +117,6 @@ module _ (s : State) (a b : List ℕ) (i : ReadMoment s a b) where
   next-done e h q = rw (done-code s e) (done-moment s e a b (spared e h) (passed s e q) i)
 
   pub step-moment : (bytes : List ℕ) → mayCome runAllows s bytes ≡ true → ReadMoment ((step s bytes) .state) (a ++ chipTook s bytes) (b ++ hostRead s bytes)
-  unfolding runAllows
   step-moment = come-law runAllows refl s Next next-refused next-done
 
 start-moment : (s : State) → Starts false s → ReadMoment s [] []
@@ -120,3 +125,55 @@ start-moment s h = record { held = held-at-start false s h; order = rw (h .scsi,
 -- THE READ RUN: whatever has come since the start, bus resets and bus free among it
 pub read-run : (s : State) (records : List (List ℕ)) → Starts false s → allCome runAllows s records ≡ true → ReadMoment (after s records) (along chipTook s records) (along hostRead s records)
 read-run s records h q = along-law runAllows ReadMoment chipTook hostRead step-moment s records [] [] (start-moment s h) q
+
+-- the bytes that the host reads are those of the answer's value, the low byte first
+abbrev pub littleEndian : List ℕ → ℕ
+littleEndian [] = 0
+littleEndian (b ∷ more) = b + 256 * littleEndian more
+
+front-value-1 : (l : List ℕ) → 1 ≤ length l → getD l 0 0 ≡ littleEndian (take 1 l)
+front-value-1 [] h = absurd (omega arith)
+front-value-1 (a ∷ l) h = omega arith
+
+front-value-2 : (l : List ℕ) → 2 ≤ length l → getD l 0 0 + 256 * getD l 1 0 ≡ littleEndian (take 2 l)
+front-value-2 [] h = absurd (omega arith)
+front-value-2 (a ∷ []) h = absurd (omega arith)
+front-value-2 (a ∷ b ∷ l) h = omega arith
+
+module _ (s : State) where
+  abbrev Answers : Decoded → Stepped → Type 0
+  Answers d r = says portRead d ≡ true → isRefusal (r .code) ≡ false → r .value ≡ littleEndian (unlessRefused (λ e. take (asked e) (s .transfer .host)) d (r .code))
+
+  answers-refused : (d : Decoded) (code : Code) (value : ℕ) → isRefusal code ≡ true → Answers d (refused s code value)
+  unfolding refused
+  answers-refused d code value q h k = absurd (never (sym k ∙ q))
+
+  answers-reset : Answers (Well PowerReset) (refused powerReset Done 0)
+  unfolding portRead
+  answers-reset h k = absurd (never h)
+
+  byte-answer : (offset : ℕ) → Passed s (Read offset) → eqb offset 0x16 ≡ true → valueRead s (Read offset) ≡ littleEndian (take (asked (Read offset)) (s .transfer .host))
+  unfolding valueRead readOf readAt table asked noBytes
+  byte-answer offset k q =
+      let n = ltb-false (length (s .transfer .host)) (asked (Read offset)) (k .bytes) in
+      ap (λ (o : ℕ). readMapped s (readAt o)) (eqb-true offset 0x16 q)
+      ∙ front-value-1 (s .transfer .host) (rw q at n)
+      ∙ rw q
+
+  port-answer : (e : Event) → Passed s e → portRead e ≡ true → valueRead s e ≡ littleEndian (take (asked e) (s .transfer .host))
+  unfolding portRead valueRead asked noBytes
+  port-answer PowerReset k h = absurd (never h)
+  port-answer (Write offset value) k h = absurd (never h)
+  port-answer (Read offset) k h = byte-answer offset k h
+  port-answer (WordWrite word) k h = absurd (never h)
+  port-answer WordRead k h = front-value-2 (s .transfer .host) (ltb-false (length (s .transfer .host)) 2 (k .bytes))
+  port-answer (Drive lines) k h = absurd (never h)
+  port-answer (Ticks n) k h = absurd (never h)
+
+  answers-done : (e : Event) → isDone (accessCode s e) ≡ true → Answers (Well e) (done s e)
+  unfolding done
+  answers-done e q h k = rw k (port-answer e (passed s e q) h)
+
+  -- what a port read that is not refused answers is what the host has read
+  pub read-is-answered : (bytes : List ℕ) → says portRead (decode bytes) ≡ true → isRefusal ((step s bytes) .code) ≡ false → (step s bytes) .value ≡ littleEndian (hostRead s bytes)
+  read-is-answered = step-law s Answers answers-refused answers-reset answers-done

@@ -29,7 +29,7 @@ use Rattle.rules.specs.declared.records.Event.the-variants.{Write}
 use Rattle.rules.specs.declared.records.Decoded.{Decoded}
 use Rattle.rules.specs.declared.records.Decoded.the-variants.{Well}
 use Rattle.runs.specs.Run.{Starts, accepted}
-use Rattle.runs.specs.Clearing.{switchedOff, bothEmpty, clears, allClear, allDone, writeRecord, clearingOf}
+use Rattle.runs.specs.Clearing.{switchedOff, bothEmpty, mayClear, allClear, allDone, writeRecord, manualValue, controlValue, clearValue, signalValue, openValue, clearingOf}
 use Rattle.runs.proofs.Settles.{settle-still, no-path-no-move, disabled-no-handshake, empty-no-move, empty-no-handshake}
 
 -- a register write brings no edge of REQ
@@ -133,27 +133,24 @@ module _ (s : State) (r : Register) (value : ℕ) (p : Plain r value) (room : le
     after-transfer = rw (write-steps, rest)
 
 -- the five writes are plain
-abbrev pub control : Bool → ℕ
-control eightbit = cond eightbit 0xCA 0x8A
-
-plain-manual : Plain SXFRCTL0 0x00
+plain-manual : Plain SXFRCTL0 manualValue
 unfolding decode fieldsOf wellFormed absent writtenAt table testValue writes shut portWrite portRead offered
 plain-manual = record { decoded = refl; present = refl; untested = refl; portless = λ x. refl; offers = refl }
 
-plain-control : (eightbit : Bool) → Plain DMACNTRL0 (control eightbit)
+plain-control : (eightbit : Bool) → Plain DMACNTRL0 (controlValue eightbit)
 unfolding decode fieldsOf wellFormed absent writtenAt table testValue writes shut portWrite portRead offered
 plain-control true = record { decoded = refl; present = refl; untested = refl; portless = λ x. refl; offers = refl }
 plain-control false = record { decoded = refl; present = refl; untested = refl; portless = λ x. refl; offers = refl }
 
-plain-clear : Plain SXFRCTL0 0x12
+plain-clear : Plain SXFRCTL0 clearValue
 unfolding decode fieldsOf wellFormed absent writtenAt table testValue writes shut portWrite portRead offered
 plain-clear = record { decoded = refl; present = refl; untested = refl; portless = λ x. refl; offers = refl }
 
-plain-signals : Plain SCSISIGO 0x00
+plain-signals : Plain SCSISIGO signalValue
 unfolding decode fieldsOf wellFormed absent writtenAt table testValue writes shut portWrite portRead offered
 plain-signals = record { decoded = refl; present = refl; untested = refl; portless = λ x. refl; offers = refl }
 
-plain-open : Plain SXFRCTL0 0xE0
+plain-open : Plain SXFRCTL0 openValue
 unfolding decode fieldsOf wellFormed absent writtenAt table testValue writes shut portWrite portRead offered
 plain-open = record { decoded = refl; present = refl; untested = refl; portless = λ x. refl; offers = refl }
 
@@ -163,21 +160,21 @@ record Manual (s : State) : Type 0 where
   mode : ManualMode (s .registers)
 
 module _ (s : State) (room : length (s .transfer .host) ≤ 128) where
-  manual-A : ManualMode ((afterA s (Write 0x01 0x00)) .registers)
+  manual-A : ManualMode ((afterA s (Write 0x01 manualValue)) .registers)
   unfolding afterA registersA writes valueOf
   manual-A = record { scsien = refl; dmaen = refl; spioen = refl }
 
-  manual-host : (afterB s (Write 0x01 0x00)) .transfer .host ≡ s .transfer .host
+  manual-host : (afterB s (Write 0x01 manualValue)) .transfer .host ≡ s .transfer .host
   unfolding afterB applied transferB afterA transferA hostA rstfifo writes portWrite asked
   manual-host = refl
 
-  after-manual : Manual ((step s (writeRecord SXFRCTL0 0x00)) .state)
+  after-manual : Manual ((step s (writeRecord SXFRCTL0 manualValue)) .state)
   after-manual =
-      let mode = mode-B s (Write 0x01 0x00) manual-A in
-      let rest = manual-settles s (Write 0x01 0x00) mode in
+      let mode = mode-B s (Write 0x01 manualValue) manual-A in
+      let rest = manual-settles s (Write 0x01 manualValue) mode in
       record {
-        room = rw (after-transfer s SXFRCTL0 0x00 plain-manual room rest, manual-host) room;
-        mode = rw (after-registers s SXFRCTL0 0x00 plain-manual room rest) mode;
+        room = rw (after-transfer s SXFRCTL0 manualValue plain-manual room rest, manual-host) room;
+        mode = rw (after-registers s SXFRCTL0 manualValue plain-manual room rest) mode;
       }
 
 -- 352h with RSTFIFO and WRITE
@@ -187,35 +184,35 @@ record Emptied (s : State) : Type 0 where
   write : s .registers .dmacntrl0 .write ≡ true
 
 module _ (s : State) (m : Manual s) (eightbit : Bool) where
-  emptied-A : ManualMode ((afterA s (Write 0x12 (control eightbit))) .registers)
+  emptied-A : ManualMode ((afterA s (Write 0x12 (controlValue eightbit))) .registers)
   unfolding afterA registersA writes valueOf
   emptied-A = record { scsien = m .mode .scsien; dmaen = m .mode .dmaen; spioen = m .mode .spioen }
 
-  emptied-write : (afterB s (Write 0x12 (control eightbit))) .registers .dmacntrl0 .write ≡ true
+  emptied-write : (afterB s (Write 0x12 (controlValue eightbit))) .registers .dmacntrl0 .write ≡ true
   unfolding afterB applied registersB afterA registersA writes valueOf
   emptied-write = go eightbit
     where
-      go : (b : Bool) → bit (control b) 3 ≡ true
+      go : (b : Bool) → bit (controlValue b) 3 ≡ true
       go true = refl
       go false = refl
 
-  emptied-host : (afterB s (Write 0x12 (control eightbit))) .transfer .host ≡ []
+  emptied-host : (afterB s (Write 0x12 (controlValue eightbit))) .transfer .host ≡ []
   unfolding afterB applied transferB afterA transferA hostA rstfifo writes valueOf
   emptied-host = rw (go eightbit)
     where
-      go : (b : Bool) → bit (control b) 1 ≡ true
+      go : (b : Bool) → bit (controlValue b) 1 ≡ true
       go true = refl
       go false = refl
 
-  after-emptied : Emptied ((step s (writeRecord DMACNTRL0 (control eightbit))) .state)
+  after-emptied : Emptied ((step s (writeRecord DMACNTRL0 (controlValue eightbit))) .state)
   after-emptied =
-      let mode = mode-B s (Write 0x12 (control eightbit)) emptied-A in
-      let rest = manual-settles s (Write 0x12 (control eightbit)) mode in
+      let mode = mode-B s (Write 0x12 (controlValue eightbit)) emptied-A in
+      let rest = manual-settles s (Write 0x12 (controlValue eightbit)) mode in
       let p = plain-control eightbit in
       record {
-        host = rw (after-transfer s DMACNTRL0 (control eightbit) p (m .room) rest) emptied-host;
-        mode = rw (after-registers s DMACNTRL0 (control eightbit) p (m .room) rest) mode;
-        write = rw (after-registers s DMACNTRL0 (control eightbit) p (m .room) rest) emptied-write;
+        host = rw (after-transfer s DMACNTRL0 (controlValue eightbit) p (m .room) rest) emptied-host;
+        mode = rw (after-registers s DMACNTRL0 (controlValue eightbit) p (m .room) rest) mode;
+        write = rw (after-registers s DMACNTRL0 (controlValue eightbit) p (m .room) rest) emptied-write;
       }
 
 -- 341h with CLRSTCNT and CLRCH
@@ -253,33 +250,33 @@ module _ (s : State) (m : Emptied s) where
   zeroed-room : length (s .transfer .host) ≤ 128
   zeroed-room = rw (m .host) (omega arith)
 
-  zeroed-mode : ManualMode ((afterA s (Write 0x01 0x12)) .registers)
+  zeroed-mode : ManualMode ((afterA s (Write 0x01 clearValue)) .registers)
   unfolding afterA registersA writes valueOf
   zeroed-mode = record { scsien = refl; dmaen = refl; spioen = refl }
 
-  zeroed-write : (afterB s (Write 0x01 0x12)) .registers .dmacntrl0 .write ≡ true
+  zeroed-write : (afterB s (Write 0x01 clearValue)) .registers .dmacntrl0 .write ≡ true
   unfolding afterB applied registersB afterA registersA writes valueOf
   zeroed-write = m .write
 
-  zeroed-A : ((afterA s (Write 0x01 0x12)) .transfer .scsi ≡ []) × ((afterA s (Write 0x01 0x12)) .transfer .offset ≡ 0)
+  zeroed-A : ((afterA s (Write 0x01 clearValue)) .transfer .scsi ≡ []) × ((afterA s (Write 0x01 clearValue)) .transfer .offset ≡ 0)
   unfolding afterA transferA clrch writes valueOf
   zeroed-A = (refl, refl)
 
-  zeroed-B : ((afterB s (Write 0x01 0x12)) .transfer .host ≡ []) × ((afterB s (Write 0x01 0x12)) .transfer .counter ≡ 0)
+  zeroed-B : ((afterB s (Write 0x01 clearValue)) .transfer .host ≡ []) × ((afterB s (Write 0x01 clearValue)) .transfer .counter ≡ 0)
   unfolding afterB applied transferB afterA transferA hostA counterA clrstcnt rstfifo writes valueOf portWrite asked
   zeroed-B = (m .host, refl)
 
-  after-zeroed : Zeroed ((step s (writeRecord SXFRCTL0 0x12)) .state)
+  after-zeroed : Zeroed ((step s (writeRecord SXFRCTL0 clearValue)) .state)
   after-zeroed =
-      let mode = mode-B s (Write 0x01 0x12) zeroed-mode in
-      let rest = manual-settles s (Write 0x01 0x12) mode in
-      let transfer = after-transfer s SXFRCTL0 0x12 plain-clear zeroed-room rest in
-      let registers = after-registers s SXFRCTL0 0x12 plain-clear zeroed-room rest in
+      let mode = mode-B s (Write 0x01 clearValue) zeroed-mode in
+      let rest = manual-settles s (Write 0x01 clearValue) mode in
+      let transfer = after-transfer s SXFRCTL0 clearValue plain-clear zeroed-room rest in
+      let registers = after-registers s SXFRCTL0 clearValue plain-clear zeroed-room rest in
       record {
         host = rw transfer (zeroed-B .0);
-        scsi = rw transfer (scsi-B s 0x01 0x12 ∙ zeroed-A .0);
+        scsi = rw transfer (scsi-B s 0x01 clearValue ∙ zeroed-A .0);
         counter = rw transfer (zeroed-B .1);
-        offset = rw transfer (offset-B s 0x01 0x12 (zeroed-A .1));
+        offset = rw transfer (offset-B s 0x01 clearValue (zeroed-A .1));
         mode = rw registers mode;
         write = rw registers zeroed-write;
       }
@@ -294,44 +291,44 @@ module _ (s : State) (m : Zeroed s) where
   ready-room : length (s .transfer .host) ≤ 128
   ready-room = rw (m .host) (omega arith)
 
-  ready-mode : ManualMode ((afterA s (Write 0x03 0x00)) .registers)
+  ready-mode : ManualMode ((afterA s (Write 0x03 signalValue)) .registers)
   unfolding afterA registersA writes valueOf
   ready-mode = record { scsien = m .mode .scsien; dmaen = m .mode .dmaen; spioen = m .mode .spioen }
 
-  ready-write : (afterB s (Write 0x03 0x00)) .registers .dmacntrl0 .write ≡ true
+  ready-write : (afterB s (Write 0x03 signalValue)) .registers .dmacntrl0 .write ≡ true
   unfolding afterB applied registersB afterA registersA writes valueOf
   ready-write = m .write
 
-  ready-signals : ((afterA s (Write 0x03 0x00)) .registers .scsisig .ioexp ≡ false) × ((afterA s (Write 0x03 0x00)) .registers .scsisig .acko ≡ false)
+  ready-signals : ((afterA s (Write 0x03 signalValue)) .registers .scsisig .ioexp ≡ false) × ((afterA s (Write 0x03 signalValue)) .registers .scsisig .acko ≡ false)
   unfolding afterA registersA writes valueOf
   ready-signals = (refl, refl)
 
-  ready-A : ((afterA s (Write 0x03 0x00)) .transfer .scsi ≡ []) × ((afterA s (Write 0x03 0x00)) .transfer .offset ≡ 0)
+  ready-A : ((afterA s (Write 0x03 signalValue)) .transfer .scsi ≡ []) × ((afterA s (Write 0x03 signalValue)) .transfer .offset ≡ 0)
   unfolding afterA transferA clrch writes valueOf
   ready-A = (m .scsi, m .offset)
 
-  ready-B : ((afterB s (Write 0x03 0x00)) .transfer .host ≡ []) × ((afterB s (Write 0x03 0x00)) .transfer .counter ≡ 0)
+  ready-B : ((afterB s (Write 0x03 signalValue)) .transfer .host ≡ []) × ((afterB s (Write 0x03 signalValue)) .transfer .counter ≡ 0)
   unfolding afterB applied transferB afterA transferA hostA counterA clrstcnt rstfifo automaticAck latchAccess writes reads valueOf portWrite asked
   ready-B = (m .host, m .counter)
 
-  after-ready : Ready ((step s (writeRecord SCSISIGO 0x00)) .state)
+  after-ready : Ready ((step s (writeRecord SCSISIGO signalValue)) .state)
   after-ready =
-      let mode = mode-B s (Write 0x03 0x00) ready-mode in
-      let rest = manual-settles s (Write 0x03 0x00) mode in
-      let transfer = after-transfer s SCSISIGO 0x00 plain-signals ready-room rest in
-      let registers = after-registers s SCSISIGO 0x00 plain-signals ready-room rest in
+      let mode = mode-B s (Write 0x03 signalValue) ready-mode in
+      let rest = manual-settles s (Write 0x03 signalValue) mode in
+      let transfer = after-transfer s SCSISIGO signalValue plain-signals ready-room rest in
+      let registers = after-registers s SCSISIGO signalValue plain-signals ready-room rest in
       record {
         zeroed =
             record {
               host = rw transfer (ready-B .0);
-              scsi = rw transfer (scsi-B s 0x03 0x00 ∙ ready-A .0);
+              scsi = rw transfer (scsi-B s 0x03 signalValue ∙ ready-A .0);
               counter = rw transfer (ready-B .1);
-              offset = rw transfer (offset-B s 0x03 0x00 (ready-A .1));
+              offset = rw transfer (offset-B s 0x03 signalValue (ready-A .1));
               mode = rw registers mode;
               write = rw registers ready-write;
             };
-        ioexp = rw registers (ioexp-B s (Write 0x03 0x00) (ready-signals .0));
-        acko = rw registers (acko-B s (Write 0x03 0x00) (ready-signals .1));
+        ioexp = rw registers (ioexp-B s (Write 0x03 signalValue) (ready-signals .0));
+        acko = rw registers (acko-B s (Write 0x03 signalValue) (ready-signals .1));
       }
 
 outward-path : (r : Registers) → r .dmacntrl0 .write ≡ true → r .sxfrctl0 .dmaen ≡ true → r .sxfrctl0 .spioen ≡ false → r .scsisig .ioexp ≡ false → path r ≡ true
@@ -343,44 +340,44 @@ module _ (s : State) (m : Ready s) where
   open-room : length (s .transfer .host) ≤ 128
   open-room = rw (m .zeroed .host) (omega arith)
 
-  open-registers : ((afterB s (Write 0x01 0xE0)) .registers .dmacntrl0 .write ≡ true) × ((afterB s (Write 0x01 0xE0)) .registers .sxfrctl0 .dmaen ≡ true) × ((afterB s (Write 0x01 0xE0)) .registers .sxfrctl0 .spioen ≡ false)
+  open-registers : ((afterB s (Write 0x01 openValue)) .registers .dmacntrl0 .write ≡ true) × ((afterB s (Write 0x01 openValue)) .registers .sxfrctl0 .dmaen ≡ true) × ((afterB s (Write 0x01 openValue)) .registers .sxfrctl0 .spioen ≡ false)
   unfolding afterB applied registersB afterA registersA writes valueOf
   open-registers = (m .zeroed .write, refl, refl)
 
-  open-signals : ((afterA s (Write 0x01 0xE0)) .registers .scsisig .ioexp ≡ false) × ((afterA s (Write 0x01 0xE0)) .registers .scsisig .acko ≡ false)
+  open-signals : ((afterA s (Write 0x01 openValue)) .registers .scsisig .ioexp ≡ false) × ((afterA s (Write 0x01 openValue)) .registers .scsisig .acko ≡ false)
   unfolding afterA registersA writes valueOf
   open-signals = (m .ioexp, m .acko)
 
-  open-A : ((afterA s (Write 0x01 0xE0)) .transfer .scsi ≡ []) × ((afterA s (Write 0x01 0xE0)) .transfer .offset ≡ 0)
+  open-A : ((afterA s (Write 0x01 openValue)) .transfer .scsi ≡ []) × ((afterA s (Write 0x01 openValue)) .transfer .offset ≡ 0)
   unfolding afterA transferA clrch writes valueOf
   open-A = (m .zeroed .scsi, m .zeroed .offset)
 
-  open-B : ((afterB s (Write 0x01 0xE0)) .transfer .host ≡ []) × ((afterB s (Write 0x01 0xE0)) .transfer .counter ≡ 0)
+  open-B : ((afterB s (Write 0x01 openValue)) .transfer .host ≡ []) × ((afterB s (Write 0x01 openValue)) .transfer .counter ≡ 0)
   unfolding afterB applied transferB afterA transferA hostA counterA clrstcnt rstfifo automaticAck latchAccess writes reads valueOf portWrite asked
   open-B = (m .zeroed .host, m .zeroed .counter)
 
-  after-open : Starts true ((step s (writeRecord SXFRCTL0 0xE0)) .state)
+  after-open : Starts true ((step s (writeRecord SXFRCTL0 openValue)) .state)
   after-open =
-      let scsi = scsi-B s 0x01 0xE0 ∙ open-A .0 in
-      let rest = empty-settles s (Write 0x01 0xE0) (open-registers .0) (open-B .0) scsi in
-      let transfer = after-transfer s SXFRCTL0 0xE0 plain-open open-room rest in
-      let registers = after-registers s SXFRCTL0 0xE0 plain-open open-room rest in
+      let scsi = scsi-B s 0x01 openValue ∙ open-A .0 in
+      let rest = empty-settles s (Write 0x01 openValue) (open-registers .0) (open-B .0) scsi in
+      let transfer = after-transfer s SXFRCTL0 openValue plain-open open-room rest in
+      let registers = after-registers s SXFRCTL0 openValue plain-open open-room rest in
       record {
         host = rw transfer (open-B .0);
         scsi = rw transfer scsi;
         counter = rw transfer (open-B .1);
-        offset = rw transfer (offset-B s 0x01 0xE0 (open-A .1));
-        acko = rw registers (acko-B s (Write 0x01 0xE0) (open-signals .1));
+        offset = rw transfer (offset-B s 0x01 openValue (open-A .1));
+        acko = rw registers (acko-B s (Write 0x01 openValue) (open-signals .1));
         opened =
             rw registers
-            (outward-path ((afterB s (Write 0x01 0xE0)) .registers) (open-registers .0) (open-registers .1) (open-registers .2)
-            (ioexp-B s (Write 0x01 0xE0) (open-signals .0)));
+            (outward-path ((afterB s (Write 0x01 openValue)) .registers) (open-registers .0) (open-registers .1) (open-registers .2)
+            (ioexp-B s (Write 0x01 openValue) (open-signals .0)));
         direction = rw registers (open-registers .0);
       }
 
 -- Manual mode with SCSIEN 0 is within the paper's condition
-mode-clears : (s : State) (bytes : List ℕ) → ManualMode ((step s bytes) .state .registers) → clears s bytes ≡ true
-unfolding clears switchedOff
+mode-clears : (s : State) (bytes : List ℕ) → ManualMode ((step s bytes) .state .registers) → mayClear s bytes ≡ true
+unfolding mayClear switchedOff
 mode-clears s bytes m = rw (m .scsien, m .spioen)
 
 -- and so is the opening of the path on empty FIFOs
@@ -388,13 +385,13 @@ ready-empty : (s : State) → Ready s → bothEmpty s ≡ true
 unfolding bothEmpty
 ready-empty s m = rw (m .zeroed .host, m .zeroed .scsi)
 
-open-takes-none : (s : State) → Ready s → accepted s (writeRecord SXFRCTL0 0xE0) ≡ []
-open-takes-none s m = rw (write-answers s SXFRCTL0 0xE0 plain-open (open-room s m), plain-open .decoded) (plain-open .offers)
+open-takes-none : (s : State) → Ready s → accepted s (writeRecord SXFRCTL0 openValue) ≡ []
+open-takes-none s m = rw (write-answers s SXFRCTL0 openValue plain-open (open-room s m), plain-open .decoded) (plain-open .offers)
 
-open-clears : (s : State) → Ready s → clears s (writeRecord SXFRCTL0 0xE0) ≡ true
-unfolding clears
+open-clears : (s : State) → Ready s → mayClear s (writeRecord SXFRCTL0 openValue) ≡ true
+unfolding mayClear
 open-clears s m =
-    rw (ready-empty s m, open-takes-none s m) (or-true (switchedOff ((step s (writeRecord SXFRCTL0 0xE0)) .state)))
+    rw (ready-empty s m, open-takes-none s m) (or-true (switchedOff ((step s (writeRecord SXFRCTL0 openValue)) .state)))
 
 pub record ClearingWorks (s : State) (eightbit : Bool) : Type 0 where
   pub starts : Starts true (after s (clearingOf eightbit))
@@ -406,10 +403,10 @@ pub record ClearingWorks (s : State) (eightbit : Bool) : Type 0 where
 pub clearing-works : (s : State) (eightbit : Bool) → length (s .transfer .host) ≤ 128 → ClearingWorks s eightbit
 unfolding clearingOf
 clearing-works s eightbit room =
-    let s1 : State = (step s (writeRecord SXFRCTL0 0x00)) .state in
-    let s2 : State = (step s1 (writeRecord DMACNTRL0 (control eightbit))) .state in
-    let s3 : State = (step s2 (writeRecord SXFRCTL0 0x12)) .state in
-    let s4 : State = (step s3 (writeRecord SCSISIGO 0x00)) .state in
+    let s1 : State = (step s (writeRecord SXFRCTL0 manualValue)) .state in
+    let s2 : State = (step s1 (writeRecord DMACNTRL0 (controlValue eightbit))) .state in
+    let s3 : State = (step s2 (writeRecord SXFRCTL0 clearValue)) .state in
+    let s4 : State = (step s3 (writeRecord SCSISIGO signalValue)) .state in
     let a = after-manual s room in
     let b = after-emptied s1 a eightbit in
     let c = after-zeroed s2 b in
@@ -419,5 +416,5 @@ clearing-works s eightbit room =
       allowed =
           rw (mode-clears s _ (a .mode), mode-clears s1 _ (b .mode), mode-clears s2 _ (c .mode), mode-clears s3 _ (d .zeroed .mode), open-clears s4 d);
       answered =
-          rw (write-answers s SXFRCTL0 0x00 plain-manual room, write-answers s1 DMACNTRL0 (control eightbit) (plain-control eightbit) (a .room), write-answers s2 SXFRCTL0 0x12 plain-clear (zeroed-room s2 b), write-answers s3 SCSISIGO 0x00 plain-signals (ready-room s3 c), write-answers s4 SXFRCTL0 0xE0 plain-open (open-room s4 d));
+          rw (write-answers s SXFRCTL0 manualValue plain-manual room, write-answers s1 DMACNTRL0 (controlValue eightbit) (plain-control eightbit) (a .room), write-answers s2 SXFRCTL0 clearValue plain-clear (zeroed-room s2 b), write-answers s3 SCSISIGO signalValue plain-signals (ready-room s3 c), write-answers s4 SXFRCTL0 openValue plain-open (open-room s4 d));
     }

@@ -69,6 +69,22 @@ module _ (c : Conditions) (h : c .outbound ≡ true) (bytes : List ℕ) (k : ℕ
   pub outbound-settles : (n : ℕ) (s : Settling) → Outbound bytes k s → Outbound bytes k (settle c n s)
   outbound-settles = settle-keeps (Outbound bytes k) c (λ s q. outbound-move s) outbound-handshake
 
+-- outbound each ACK sends one byte
+abbrev pub Paired : Settling → Type 0
+Paired s = s .acks ≡ length (s .sent)
+
+module _ (c : Conditions) (h : c .outbound ≡ true) where
+  paired-move : (s : Settling) → Paired s → Paired (move c s)
+  unfolding move
+  paired-move s o = o
+
+  paired-handshake : (s : Settling) → canHandshake c (s .transfer) ≡ true → Paired s → Paired (handshake c s)
+  unfolding handshake
+  paired-handshake s e o = let p = handshake-has-byte c h s e in rw h (simp (length-append, length-take) (omega arith))
+
+  pub paired-settles : (n : ℕ) (s : Settling) → Paired s → Paired (settle c n s)
+  paired-settles = settle-keeps Paired c (λ s q. paired-move s) paired-handshake
+
 -- inbound: what each handshake stores, and what n of them store
 abbrev pub storedBy : Conditions → ℕ → List ℕ
 storedBy c n = cond (c .synchronous) [] (replicate n (c .byte))

@@ -22,7 +22,7 @@ allowed-at offset value r q h = rw (eqb-true offset (offsetOf r) q) at h
 
 -- a register that no run writes is not written
 pub not-written : (r : Register) → ((value : ℕ) → writeAllowed (offsetOf r) value ≡ false) → (e : Event) → runAllows e ≡ true → writes e r ≡ false
-unfolding writes runAllows
+unfolding writes
 not-written r out PowerReset h = refl
 not-written r out (Write offset value) h = go (eqb offset (offsetOf r)) refl
   where
@@ -68,7 +68,7 @@ pub record Spared (e : Event) : Type 0 where
 
 -- a bit of a write to 341h that a run wants 0
 zero-bit : (k : ℕ) → ((value : ℕ) → Bits341 value → bit value k ≡ false) → (e : Event) → runAllows e ≡ true → (writes e SXFRCTL0 && bit (valueOf e) k) ≡ false
-unfolding writes valueOf runAllows
+unfolding writes valueOf
 zero-bit k out PowerReset h = refl
 zero-bit k out (Write offset value) h = go (eqb offset (offsetOf SXFRCTL0)) refl
   where

@@ -81,7 +81,6 @@ module _ (s : State) (a b : List ℕ) (i : WriteMoment s a b) where
   next-done e h q = rw (done-code s e) (done-moment s e a b (spared e h) (passed s e q) i)
 
   pub step-moment : (bytes : List ℕ) → mayCome runAllows s bytes ≡ true → WriteMoment ((step s bytes) .state) (a ++ accepted s bytes) (b ++ sentBy s bytes)
-  unfolding runAllows
   step-moment = come-law runAllows refl s Next next-refused next-done
 
 start-moment : (s : State) → Starts true s → WriteMoment s [] []

@@ -4,12 +4,16 @@ use mathlib.Core.Bool.{Bool, true, false, not, _&&_, _||_, cond}
 use mathlib.Core.List.{List, [], _∷_}
 use lib.Dec.{eqb}
 use lib.ListN.{length}
+use Rattle.rules.specs.Numbers.{bit}
 use Rattle.rules.specs.Map.{offsetOf}
 use Rattle.rules.specs.State.{State}
+use Rattle.rules.specs.Events.{writes, valueOf}
 use Rattle.rules.specs.Codes.{isDone}
 use Rattle.rules.specs.Step.{step}
 use Rattle.rules.specs.declared.map.Register.{Register}
 use Rattle.rules.specs.declared.map.Register.the-variants.{SXFRCTL0, SCSISIGO, DMACNTRL0}
+use Rattle.rules.specs.declared.records.Event.{Event}
+use Rattle.runs.specs.Comes.{mayCome}
 use Rattle.runs.specs.Run.{accepted}
 
 -- "SCSIEN and SPIOEN 0"
@@ -21,12 +25,21 @@ bothEmpty s = eqb (length (s .transfer .host)) 0 && eqb (length (s .transfer .sc
 
 -- "all with SCSIEN and SPIOEN 0 until both FIFOs are empty": a record after which they are 0; or both FIFOs are empty before it,
 -- and it brings the port no byte, since port writes belong to a run
-unfoldable pub clears : State → List ℕ → Bool
-clears s bytes = switchedOff ((step s bytes) .state) || (bothEmpty s && eqb (length (accepted s bytes)) 0)
+unfoldable pub mayClear : State → List ℕ → Bool
+mayClear s bytes = switchedOff ((step s bytes) .state) || (bothEmpty s && eqb (length (accepted s bytes)) 0)
 
 abbrev pub allClear : State → List (List ℕ) → Bool
 allClear s [] = true
-allClear s (bytes ∷ more) = clears s bytes && allClear ((step s bytes) .state) more
+allClear s (bytes ∷ more) = mayClear s bytes && allClear ((step s bytes) .state) more
+
+-- until the FIFOs are empty: SCSIEN and SPIOEN are 0 after each record, and 343h is written "with ACKO 0"
+unfoldable pub leavesAcko : Event → Bool
+leavesAcko e = not (writes e SCSISIGO && bit (valueOf e) 0)
+
+abbrev pub allOff : State → List (List ℕ) → Bool
+allOff s [] = true
+allOff s (bytes ∷ more) =
+    switchedOff ((step s bytes) .state) && mayCome leavesAcko s bytes && allOff ((step s bytes) .state) more
 
 -- every record gets code 0
 abbrev pub allDone : State → List (List ℕ) → Bool
@@ -37,12 +50,32 @@ allDone s (bytes ∷ more) = isDone ((step s bytes) .code) && allDone ((step s b
 abbrev pub writeRecord : Register → ℕ → List ℕ
 writeRecord r value = (32 + offsetOf r) ∷ 0 ∷ 0 ∷ value ∷ []
 
+-- Manual mode: the path is shut, so that no FIFO refills the other
+abbrev pub manualValue : ℕ
+manualValue = 0x00
+
+-- RSTFIFO, with ENDMA, WRITE 1 and the port's width
+abbrev pub controlValue : Bool → ℕ
+controlValue eightbit = cond eightbit 0xCA 0x8A
+
+-- CLRSTCNT and CLRCH
+abbrev pub clearValue : ℕ
+clearValue = 0x12
+
+-- ACKO 0, and data out expected
+abbrev pub signalValue : ℕ
+signalValue = 0x00
+
+-- SCSIEN, DMAEN, CHEN: the path opens on empty FIFOs
+abbrev pub openValue : ℕ
+openValue = 0xE0
+
 -- a clearing that a driver can use: "empties both FIFOs, zeroes counter and offset, and writes 343h with ACKO 0 ... and starts anew"
 unfoldable pub clearingOf : Bool → List (List ℕ)
 clearingOf eightbit =
-    writeRecord SXFRCTL0 0x00  -- Manual: the path is shut, so no FIFO refills the other
-    ∷ writeRecord DMACNTRL0 (cond eightbit 0xCA 0x8A)  -- RSTFIFO, with ENDMA, WRITE 1 and the width
-    ∷ writeRecord SXFRCTL0 0x12  -- CLRSTCNT and CLRCH
-    ∷ writeRecord SCSISIGO 0x00  -- ACKO 0, and data out expected
-    ∷ writeRecord SXFRCTL0 0xE0  -- SCSIEN, DMAEN, CHEN: the path opens on empty FIFOs
+    writeRecord SXFRCTL0 manualValue
+    ∷ writeRecord DMACNTRL0 (controlValue eightbit)
+    ∷ writeRecord SXFRCTL0 clearValue
+    ∷ writeRecord SCSISIGO signalValue
+    ∷ writeRecord SXFRCTL0 openValue
     ∷ []

@@ -43,7 +43,7 @@ writeAllowed offset value =
     || (eqb offset (offsetOf SXFRCTL0) && keepsRun value)
 
 -- "It allows reads, port writes, lines, ticks, and writes to ..."; a read run the same, with port reads among the reads
-unfoldable pub runAllows : Event → Bool
+abbrev pub runAllows : Event → Bool
 runAllows PowerReset = false
 runAllows (Write offset value) = writeAllowed offset value
 runAllows (Read offset) = true
