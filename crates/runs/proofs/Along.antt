@@ -1,13 +1,14 @@
 -- Lists of records: what holds along them, and how they join.
 use mathlib.Core.Path.{_≡_, refl, sym, _∙_, ap}
-use mathlib.Core.Bool.{Bool, true, false, _&&_, and-assoc}
+use mathlib.Core.Bool.{Bool, true, false, _&&_, and-assoc, or-true}
 use mathlib.Core.List.{List, [], _∷_, _++_, append-assoc, append-nil}
 use Prim.Native.Nat.{ℕ}
 use Rattle.rules.specs.State.{State}
+use Rattle.rules.specs.Records.{decode}
 use Rattle.rules.specs.Step.{step, after}
 use Rattle.rules.specs.declared.records.Event.{Event}
 use Rattle.rules.proofs.Logic.{left-true, right-true}
-use Rattle.runs.specs.Comes.{mayCome, allCome, along}
+use Rattle.runs.specs.Comes.{isRefusal, says, mayCome, allCome, along}
 
 -- an invariant over two growing lists holds along records that may come
 module _ (allows : Event → Bool) (I : State → List ℕ → List ℕ → Type 0) (f g : State → List ℕ → List ℕ) (keeps : (s : State) (a b : List ℕ) → I s a b → (bytes : List ℕ) → mayCome allows s bytes ≡ true → I ((step s bytes) .state) (a ++ f s bytes) (b ++ g s bytes)) where
@@ -34,3 +35,8 @@ come-append allows s [] b = refl
 come-append allows s (bytes ∷ more) b =
     ap (λ (x : Bool). mayCome allows s bytes && x) (come-append allows ((step s bytes) .state) more b)
     ∙ sym (and-assoc (mayCome allows s bytes) (allCome allows ((step s bytes) .state) more) (allCome allows (after ((step s bytes) .state) more) b))
+
+-- a record whose event is allowed may come in any state
+pub said-comes : (allows : Event → Bool) (s : State) (bytes : List ℕ) → says allows (decode bytes) ≡ true → mayCome allows s bytes ≡ true
+unfolding mayCome
+said-comes allows s bytes h = rw h (or-true (isRefusal ((step s bytes) .code)))

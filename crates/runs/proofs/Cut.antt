@@ -1,6 +1,6 @@
 -- The cut: after it nothing is sent and the counter stays, so that the three reads give the number of bytes taken.
 use mathlib.Core.Path.{_≡_, refl, sym, _∙_, ap}
-use mathlib.Core.Bool.{Bool, true, false, not, _&&_, _||_, cond, and-false, or-true}
+use mathlib.Core.Bool.{Bool, true, false, not, _&&_, _||_, cond, and-false}
 use mathlib.Core.List.{List, [], _∷_, _++_, append-assoc, append-nil}
 use Prim.Native.Nat.{ℕ, _+_, _*_, _/_, _%_, _<_, _≤_}
 use native.Mathlib.Omega.{arith}
@@ -37,7 +37,7 @@ use Rattle.runs.specs.Comes.{isRefusal, says, mayCome, allCome, along}
 use Rattle.runs.specs.Run.{Starts, keepsRun, writeAllowed, runAllows, accepted, sentBy}
 use Rattle.runs.specs.Cut.{cutValue, isCut, setsScsien, calm, readAnswer, readAnswers, counterRead}
 use Rattle.runs.specs.Rounds.{Round, recordsOf, afterCut, afterReading, takenIn, numberRead, Proceeds}
-use Rattle.runs.proofs.Along.{after-append, along-append, come-append}
+use Rattle.runs.proofs.Along.{after-append, along-append, come-append, said-comes}
 use Rattle.runs.proofs.WriteRun.{WriteMoment, write-run}
 use Rattle.runs.proofs.Access.{step-law, come-law}
 use Rattle.runs.proofs.Settles.{Idle, idle-settles}
@@ -245,8 +245,7 @@ all-come-more p q f s (bytes ∷ more) h =
     (all-come-more p q f ((step s bytes) .state) more (right-true (mayCome p s bytes) (allCome p ((step s bytes) .state) more) h))
 
 cut-comes : (s : State) (bytes : List ℕ) → says isCut (decode bytes) ≡ true → mayCome runAllows s bytes ≡ true
-unfolding mayCome
-cut-comes s bytes h = rw (says-more isCut runAllows cut-allowed (decode bytes) h) (or-true (isRefusal ((step s bytes) .code)))
+cut-comes s bytes h = said-comes runAllows s bytes (says-more isCut runAllows cut-allowed (decode bytes) h)
 
 -- the run with its cut and the reading is itself a list of records that a run allows
 pub still-a-run : (s : State) (r : Round) → Proceeds s r → allCome runAllows s (recordsOf r) ≡ true

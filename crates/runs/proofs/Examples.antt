@@ -8,8 +8,8 @@ use Rattle.rules.specs.Examples.{bytesOf}
 use Rattle.rules.specs.Step.{step, after}
 use Rattle.rules.specs.declared.map.Register.the-variants.{SCSIRATE}
 use Rattle.rules.proofs.Computes.{computes}
-use Rattle.runs.specs.Comes.{mayCome, along}
-use Rattle.runs.specs.Run.{Starts, keepsRun, writeAllowed, runAllows, sentBy}
+use Rattle.runs.specs.Comes.{mayCome, allCome, along}
+use Rattle.runs.specs.Run.{Starts, keepsRun, writeAllowed, runAllows, sentBy, hostRead, tookAtReq, tookByHandshakes, chipTook}
 use Rattle.runs.specs.Cut.{cutValue, isCut, setsScsien, calm, readAnswer}
 use Rattle.runs.specs.Clearing.{switchedOff, bothEmpty, mayClear, writeRecord, clearingOf}
 use Rattle.runs.specs.Rounds.{Round, Chain, taken, reached, AllCleared}
@@ -17,7 +17,7 @@ use Rattle.runs.proofs.Tests.{chain-by-test, cleared-by-test}
 
 -- one name opens all that a chain is made of
 unfoldable pub follows : ℕ
-unfolding computes mayCome keepsRun writeAllowed cutValue isCut setsScsien calm readAnswer switchedOff bothEmpty mayClear clearingOf
+unfolding computes mayCome tookAtReq tookByHandshakes keepsRun writeAllowed cutValue isCut setsScsien calm readAnswer switchedOff bothEmpty mayClear clearingOf
 follows = 0
 
 -- records, each written as one number
@@ -153,3 +153,53 @@ left-over = refl
 pub left-over-sent : along sentBy (after twelve wrongOrder) (records (0xA0000006 ∷ [])) ≡ 0x38 ∷ []
 unfolding follows ready twelve
 left-over-sent = refl
+
+-- A READ RUN, 8 bits: an asynchronous byte, a bus reset, and what is left in the FIFO is read; refused: a port write, a read with no byte
+unfoldable pub inward : State
+inward = after powerReset (records (0x320000C0 ∷ 0x23000040 ∷ 0x210000E0 ∷ []))
+
+abbrev inwardRun : List (List ℕ)
+inwardRun = records (0xA0010446 ∷ 0xA0000044 ∷ 0xA0010846 ∷ 0x36000041 ∷ 0x56000000 ∷ 0xA0000144 ∷ 0x56000000 ∷ 0x56000000 ∷ [])
+
+pub inward-starts : Starts false inward
+unfolding follows inward
+inward-starts =
+    record { host = refl; scsi = refl; counter = refl; offset = refl; acko = refl; opened = refl; direction = refl }
+
+pub inward-comes : allCome runAllows inward inwardRun ≡ true
+unfolding follows inward
+inward-comes = refl
+
+pub inward-took : along chipTook inward inwardRun ≡ 0x41 ∷ 0x42 ∷ []
+unfolding follows inward
+inward-took = refl
+
+pub inward-read : along hostRead inward inwardRun ≡ 0x41 ∷ 0x42 ∷ []
+unfolding follows inward
+inward-read = refl
+
+-- 16 bits, synchronous with SOFS 2: three REQ, the third beyond the limit (code 6, not taken), while SCSIEN is 0; then a word is read
+unfoldable pub inwardFast : State
+inwardFast = after powerReset (records (0x32000080 ∷ 0x24000002 ∷ 0x23000040 ∷ 0x21000060 ∷ []))
+
+abbrev fastRun : List (List ℕ)
+fastRun =
+    records
+    (0xA0010446 ∷ 0xA0010444 ∷ 0xA0010846 ∷ 0xA0010844 ∷ 0xA0010C46 ∷ 0xA0010C44 ∷ 0x210000E0 ∷ 0x80000000 ∷ 0xA0011046 ∷ [])
+
+pub fast-starts : Starts false inwardFast
+unfolding follows inwardFast
+fast-starts =
+    record { host = refl; scsi = refl; counter = refl; offset = refl; acko = refl; opened = refl; direction = refl }
+
+pub fast-comes : allCome runAllows inwardFast fastRun ≡ true
+unfolding follows inwardFast
+fast-comes = refl
+
+pub fast-took : along chipTook inwardFast fastRun ≡ 0x41 ∷ 0x42 ∷ 0x44 ∷ []
+unfolding follows inwardFast
+fast-took = refl
+
+pub fast-read : along hostRead inwardFast fastRun ≡ 0x41 ∷ 0x42 ∷ []
+unfolding follows inwardFast
+fast-read = refl
