@@ -73,8 +73,7 @@ offersTest rest s (bytes ∷ more) =
 offers-by-test : (rest : List ℕ) (s : State) (records : List (List ℕ)) → offersTest rest s records ≡ true → Offers rest s records
 offers-by-test rest s [] h = tt
 offers-by-test rest s (bytes ∷ more) h =
-    let a = same (take (length (eventBytes offered (decode bytes))) rest) (eventBytes offered (decode bytes)) in
-    (
+    let a = same (take (length (eventBytes offered (decode bytes))) rest) (eventBytes offered (decode bytes)) in (
       same-eq (take (length (eventBytes offered (decode bytes))) rest) (eventBytes offered (decode bytes)) (left-true a _ h),
       offers-by-test (drop (length (accepted s bytes)) rest) ((step s bytes) .state) more (right-true a _ h),
     )

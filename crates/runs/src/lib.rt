@@ -2,7 +2,6 @@
 ghost use mathlib.Core.Path.{_≡_};
 ghost use Rattle.runs.specs.Run.{keepsRun, writeAllowed, runAllows};
 ghost use Rattle.runs.specs.Cut.{cutValue};
-
 use rules::records::Event;
 
 // Does this byte, written to 341h, leave CLRSTCNT, SPIOEN and CLRCH 0?
