@@ -1,0 +1,194 @@
+-- The clearing: no byte is sent from the cut to the next start, whatever the order, as long as the paper's condition holds.
+use mathlib.Core.Path.{_≡_, refl, sym, _∙_, ap}
+use mathlib.Core.Bool.{Bool, true, false, not, _&&_, _||_, cond, and-false}
+use mathlib.Core.List.{List, [], _∷_, _++_}
+use Prim.Native.Nat.{ℕ}
+use native.Mathlib.Omega.{arith}
+use lib.Dec.{eqb}
+use lib.ListN.{length, drop}
+use lib.Seq.{drop-nil}
+use borrow.Author.Tests.{eqb-true, not-true}
+use Rattle.rules.specs.Numbers.{bit}
+use Rattle.rules.specs.Registers.{scsisigOf}
+use Rattle.rules.specs.State.{State, powerReset}
+use Rattle.rules.specs.Records.{decode}
+use Rattle.rules.specs.Events.{writes, valueOf, offered, asked, portWrite}
+use Rattle.rules.specs.Codes.{accessCode, isDone}
+use Rattle.rules.specs.StepA.{clears, clrch, rstfifo, withAtn, registersA, hostA, transferA, afterA}
+use Rattle.rules.specs.StepB.{registersB, transferB, applied, edgesOf, afterB}
+use Rattle.rules.specs.StepC.{Settling, conditions, started, turns, settledC}
+use Rattle.rules.specs.StepD.{finished, afterD}
+use Rattle.rules.specs.Answers.{Stepped}
+use Rattle.rules.specs.Step.{refused, done, step, after}
+use Rattle.rules.specs.declared.registers.Scsisig.{Scsisig}
+use Rattle.rules.specs.declared.map.Register.the-variants.{SCSISIGO}
+use Rattle.rules.specs.declared.codes.Code.{Code}
+use Rattle.rules.specs.declared.codes.Code.the-variants.{Done}
+use Rattle.rules.specs.declared.records.Event.{Event}
+use Rattle.rules.specs.declared.records.Event.the-variants.{PowerReset}
+use Rattle.rules.specs.declared.records.Decoded.{Decoded}
+use Rattle.rules.specs.declared.records.Decoded.the-variants.{Well}
+use Rattle.rules.proofs.Logic.{never, left-true, right-true}
+use Rattle.runs.specs.Comes.{isRefusal, says, mayCome, unlessRefused, along, acksAlong}
+use Rattle.runs.specs.Run.{accepted, sentBy}
+use Rattle.runs.specs.Clearing.{switchedOff, bothEmpty, leavesAcko, allOff, mayClear, allClear}
+use Rattle.runs.proofs.Access.{done-code, step-law}
+use Rattle.runs.proofs.Settles.{Unsent, unsent-settles, settle-still, empty-no-move, empty-no-handshake}
+use Rattle.runs.proofs.Stages.{outbound-stores-none, no-automatic-ack}
+use Rattle.runs.proofs.Cut.{idle-event}
+
+none-of-length : (l : List ℕ) → eqb (length l) 0 ≡ true → l ≡ []
+none-of-length [] h = refl
+none-of-length (x ∷ l) h = let n = eqb-true (length (x ∷ l)) 0 h in absurd (omega arith)
+
+-- both FIFOs empty and no byte offered: they are empty when settling starts
+module _ (s : State) (e : Event) (none : offered e ≡ []) where
+  host-still-empty : s .transfer .host ≡ [] → (afterB s e) .transfer .host ≡ []
+  unfolding afterB applied transferB afterA transferA hostA
+  host-still-empty h = rw (h, none, drop-nil) (go (rstfifo e) (portWrite e))
+    where
+      go : (a b : Bool) → _≡_ {A = List ℕ} (cond a [] (cond b [] [])) []
+      go true b = refl
+      go false true = refl
+      go false false = refl
+
+  scsi-still-empty : s .transfer .scsi ≡ [] → (afterB s e) .registers .dmacntrl0 .write ≡ true → (afterB s e) .transfer .scsi ≡ []
+  unfolding afterB applied transferB afterA transferA
+  scsi-still-empty h w = rw (outbound-stores-none s e w, h) (go (clrch e))
+    where
+      go : (a : Bool) → _≡_ {A = List ℕ} (cond a [] []) []
+      go true = refl
+      go false = refl
+
+  empty-sends-none : s .transfer .host ≡ [] → s .transfer .scsi ≡ [] → (settledC s e) .sent ≡ []
+  unfolding settledC conditions started
+  empty-sends-none h k = go ((afterB s e) .registers .dmacntrl0 .write) refl
+    where
+      go : (w : Bool) → (afterB s e) .registers .dmacntrl0 .write ≡ w → (settledC s e) .sent ≡ []
+      go false w = unsent-settles (conditions (afterB s e)) w turns (started (afterB s e)) refl
+      go true w =
+          ap (λ (x : Settling). x .sent)
+          (settle-still (conditions (afterB s e)) (started (afterB s e))
+          (empty-no-move (conditions (afterB s e)) ((afterB s e) .transfer) w (host-still-empty h))
+          (empty-no-handshake (conditions (afterB s e)) ((afterB s e) .transfer) w (scsi-still-empty k w)) turns)
+
+-- a step in the clearing sends nothing
+module _ (s : State) where
+  abbrev Clears : Decoded → Stepped → Type 0
+  Clears d r = (switchedOff (r .state) || (bothEmpty s && eqb (length (unlessRefused offered d (r .code))) 0)) ≡ true → r .sent ≡ []
+
+  clears-refused : (d : Decoded) (code : Code) (value : ℕ) → isRefusal code ≡ true → Clears d (refused s code value)
+  unfolding refused
+  clears-refused d code value q h = refl
+
+  clears-reset : Clears (Well PowerReset) (refused powerReset Done 0)
+  unfolding refused
+  clears-reset h = refl
+
+  off-sends-none : (e : Event) → switchedOff ((done s e) .state) ≡ true → (done s e) .sent ≡ []
+  unfolding done afterD finished switchedOff
+  off-sends-none e h =
+      idle-event s e (not-true ((afterB s e) .registers .sxfrctl0 .scsien) (left-true (not ((afterB s e) .registers .sxfrctl0 .scsien)) (not ((afterB s e) .registers .sxfrctl0 .spioen)) h))
+      .none
+
+  empty-done : (e : Event) → (bothEmpty s && eqb (length (offered e)) 0) ≡ true → (done s e) .sent ≡ []
+  unfolding done bothEmpty
+  empty-done e h =
+      let both = left-true (bothEmpty s) (eqb (length (offered e)) 0) h in
+      empty-sends-none s e (none-of-length (offered e) (right-true (bothEmpty s) (eqb (length (offered e)) 0) h))
+      (none-of-length (s .transfer .host) (left-true (eqb (length (s .transfer .host)) 0) (eqb (length (s .transfer .scsi)) 0) both))
+      (none-of-length (s .transfer .scsi) (right-true (eqb (length (s .transfer .host)) 0) (eqb (length (s .transfer .scsi)) 0) both))
+
+  clears-done : (e : Event) → isDone (accessCode s e) ≡ true → Clears (Well e) (done s e)
+  clears-done e q h = go (switchedOff ((done s e) .state)) refl (rw (done-code s e) at h)
+    where
+      go : (t : Bool) → switchedOff ((done s e) .state) ≡ t → (t || (bothEmpty s && eqb (length (offered e)) 0)) ≡ true → (done s e) .sent ≡ []
+      go true k j = off-sends-none e k
+      go false k j = empty-done e j
+
+  pub clear-step : (bytes : List ℕ) → mayClear s bytes ≡ true → sentBy s bytes ≡ []
+  unfolding mayClear
+  clear-step = step-law s Clears clears-refused clears-reset clears-done
+
+-- THE CLEARING sends nothing, in whatever order it clears
+pub clearing-sends-nothing : (s : State) (records : List (List ℕ)) → allClear s records ≡ true → along sentBy s records ≡ []
+clearing-sends-nothing s [] h = refl
+clearing-sends-nothing s (bytes ∷ more) h =
+    rw (clear-step s bytes (left-true (mayClear s bytes) (allClear ((step s bytes) .state) more) h))
+    (clearing-sends-nothing ((step s bytes) .state) more (right-true (mayClear s bytes) (allClear ((step s bytes) .state) more) h))
+
+-- UNTIL THE FIFOS ARE EMPTY the chip issues no ACK at all: no Normal-mode ACK, no Automatic one, and none by ACKO
+pub record Silent (s : State) (later : State) (acks : ℕ) : Type 0 where
+  pub none : acks ≡ 0
+  pub off : switchedOff later ≡ true
+  pub acko : later .registers .scsisig .acko ≡ false
+  pub ack : later .transfer .ack ≡ true → s .transfer .ack ≡ true
+
+off-scsien : (s : State) → switchedOff s ≡ true → s .registers .sxfrctl0 .scsien ≡ false
+unfolding switchedOff
+off-scsien s h =
+    not-true (s .registers .sxfrctl0 .scsien) (left-true (not (s .registers .sxfrctl0 .scsien)) (not (s .registers .sxfrctl0 .spioen)) h)
+
+off-spioen : (s : State) → switchedOff s ≡ true → s .registers .sxfrctl0 .spioen ≡ false
+unfolding switchedOff
+off-spioen s h =
+    not-true (s .registers .sxfrctl0 .spioen) (right-true (not (s .registers .sxfrctl0 .scsien)) (not (s .registers .sxfrctl0 .spioen)) h)
+
+acko-written : (b : Bool) (x y : Scsisig) → (b && x .acko) ≡ false → y .acko ≡ false → (cond b x y) .acko ≡ false
+acko-written true x y q h = q
+acko-written false x y q h = h
+
+module _ (s : State) (e : Event) (a : s .registers .scsisig .acko ≡ false) (keep : leavesAcko e ≡ true) where
+  acko-A : (afterA s e) .registers .scsisig .acko ≡ false
+  unfolding afterA registersA leavesAcko
+  acko-A =
+      acko-written (writes e SCSISIGO) (scsisigOf (s .registers .scsisig .atno) (valueOf e))
+      (withAtn (not (clears e 6) && s .registers .scsisig .atno) (s .registers .scsisig))
+      (not-true (writes e SCSISIGO && bit (valueOf e) 0) keep) a
+
+  acko-B : (afterB s e) .registers .scsisig .acko ≡ false
+  unfolding afterB applied registersB
+  acko-B = rw acko-A (and-false (not ((edgesOf s e) .rstrises || (edgesOf s e) .free)))
+
+-- without an Automatic ACK, B turns no ACK on
+ack-before : (s : State) (e : Event) → s .registers .sxfrctl0 .spioen ≡ false → (afterB s e) .transfer .ack ≡ true → s .transfer .ack ≡ true
+unfolding afterB applied transferB afterA transferA
+ack-before s e p h =
+    right-true (not ((edgesOf s e) .reqfalls || (edgesOf s e) .rstrises || (edgesOf s e) .free)) (s .transfer .ack)
+    (rw (no-automatic-ack s e p) at h)
+
+module _ (s : State) (o : switchedOff s ≡ true) (a : s .registers .scsisig .acko ≡ false) where
+  abbrev Silences : Decoded → Stepped → Type 0
+  Silences d r = switchedOff (r .state) ≡ true → (isRefusal (r .code) || says leavesAcko d) ≡ true → Silent s (r .state) (r .acks)
+
+  silent-refused : (d : Decoded) (code : Code) (value : ℕ) → isRefusal code ≡ true → Silences d (refused s code value)
+  unfolding refused
+  silent-refused d code value q h k = record { none = refl; off = o; acko = a; ack = λ t. t }
+
+  silent-reset : Silences (Well PowerReset) (refused powerReset Done 0)
+  unfolding refused powerReset
+  silent-reset h k = record { none = refl; off = h; acko = refl; ack = λ t. absurd (never t) }
+
+  silent-done : (e : Event) → isDone (accessCode s e) ≡ true → Silences (Well e) (done s e)
+  unfolding done afterD finished
+  silent-done e q h k =
+      let i = idle-event s e (off-scsien ((done s e) .state) h) in
+      record {
+        none = i .acks;
+        off = h;
+        acko = acko-B s e a (rw (done-code s e) at k);
+        ack = λ t. ack-before s e (off-spioen s o) (sym (i .ack) ∙ t);
+      }
+
+  pub step-silent : (bytes : List ℕ) → switchedOff ((step s bytes) .state) ≡ true → mayCome leavesAcko s bytes ≡ true → Silent s ((step s bytes) .state) ((step s bytes) .acks)
+  unfolding mayCome
+  step-silent = step-law s Silences silent-refused silent-reset silent-done
+
+pub no-ack-until-empty : (s : State) (records : List (List ℕ)) → switchedOff s ≡ true → s .registers .scsisig .acko ≡ false → allOff s records ≡ true → Silent s (after s records) (acksAlong s records)
+no-ack-until-empty s [] o a h = record { none = refl; off = o; acko = a; ack = λ t. t }
+no-ack-until-empty s (bytes ∷ more) o a h =
+    let front = switchedOff ((step s bytes) .state) && mayCome leavesAcko s bytes in
+    let h1 = left-true front (allOff ((step s bytes) .state) more) h in
+    let x = step-silent s o a bytes (left-true (switchedOff ((step s bytes) .state)) (mayCome leavesAcko s bytes) h1) (right-true (switchedOff ((step s bytes) .state)) (mayCome leavesAcko s bytes) h1) in
+    let y = no-ack-until-empty ((step s bytes) .state) more (x .off) (x .acko) (right-true front (allOff ((step s bytes) .state) more) h) in
+    record { none = rw (x .none, y .none); off = y .off; acko = y .acko; ack = λ t. x .ack (y .ack t) }

@@ -1,0 +1,15 @@
+pub mod Access
+pub mod Along
+pub mod Settles
+pub mod Spared
+pub mod Stages
+pub mod WriteRun
+pub mod ReadRun
+pub mod Acks
+pub mod Cut
+pub mod Clearing
+pub mod Sequence
+pub mod Rounds
+pub mod Tests
+pub mod Examples
+pub mod Bound

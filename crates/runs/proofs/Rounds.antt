@@ -1,0 +1,102 @@
+-- The chain: over any number of rounds the target takes a beginning of the driver's data, each byte once, in order.
+use mathlib.Core.Path.{_≡_, refl, sym, _∙_, ap}
+use mathlib.Core.Bool.{Bool, true, false, cond}
+use mathlib.Core.List.{List, [], _∷_, _++_, append-nil}
+use Prim.Native.Nat.{ℕ, _+_, _%_, _<_, _≤_}
+use native.Mathlib.Nat.{add-zero}
+use native.Mathlib.Omega.{arith}
+use lib.ListN.{length, take, drop, length-append}
+use lib.Seq.{take-add, drop-drop, take-take}
+use Rattle.rules.specs.State.{State}
+use Rattle.rules.specs.Records.{decode}
+use Rattle.rules.specs.Events.{offered}
+use Rattle.rules.specs.Step.{step, after}
+use Rattle.rules.specs.declared.codes.Code.{Code}
+use Rattle.rules.specs.declared.records.Decoded.{Decoded}
+use Rattle.runs.specs.Comes.{isRefusal, eventBytes, unlessRefused, along}
+use Rattle.runs.specs.Run.{accepted, sentBy}
+use Rattle.runs.specs.Rounds.{Offers, Round, recordsOf, afterCut, afterReading, afterRound, takenIn, numberRead, Proceeds, Follows, Chain, taken, reached, AllCleared, allRecords}
+use Rattle.runs.proofs.Along.{after-append, along-append}
+use Rattle.runs.proofs.Clearing.{clearing-sends-nothing}
+use Rattle.runs.proofs.Sequence.{ClearingWorks, clearing-works}
+use Rattle.runs.proofs.WriteRun.{WriteMoment, write-run}
+use Rattle.runs.proofs.Cut.{CutAndRead, cut-and-read, front}
+
+-- what the port accepts of an offer in order is the front of the data
+accepted-front : (rest : List ℕ) (s : State) (bytes : List ℕ) → take (length (eventBytes offered (decode bytes))) rest ≡ eventBytes offered (decode bytes) → accepted s bytes ≡ take (length (accepted s bytes)) rest
+accepted-front rest s bytes h = go (isRefusal ((step s bytes) .code))
+  where
+    go : (t : Bool) → cond t [] (eventBytes offered (decode bytes)) ≡ take (length (cond t [] (eventBytes offered (decode bytes)))) rest
+    go true = refl
+    go false = sym h
+
+pub accepted-prefix : (rest : List ℕ) (s : State) (records : List (List ℕ)) → Offers rest s records → along accepted s records ≡ take (length (along accepted s records)) rest
+accepted-prefix rest s [] h = refl
+accepted-prefix rest s (bytes ∷ more) h =
+    rw (length-append, take-add)
+    (ap (λ (x : List ℕ). x ++ along accepted ((step s bytes) .state) more) (accepted-front rest s bytes (h .0))
+    ∙ ap (λ (x : List ℕ). take (length (accepted s bytes)) rest ++ x) (accepted-prefix (drop (length (accepted s bytes)) rest) ((step s bytes) .state) more (h .1)))
+
+-- what a round's target took is the front of the driver's data
+sent-prefix : (rest : List ℕ) (s : State) (r : Round) → Follows rest s r → along sentBy s (r .run) ≡ take (length (along sentBy s (r .run))) rest
+sent-prefix rest s r f =
+    let m = write-run s (r .run) (f .proceeds .start) (f .proceeds .run) in
+    let short : length (along sentBy s (r .run)) ≤ length (along accepted s (r .run)) = omega (arith, simp length-append at (ap length (m .order))) in
+    front (along sentBy s (r .run)) _ (along accepted s (r .run)) (m .order)
+    ∙ ap (λ (x : List ℕ). take (length (along sentBy s (r .run))) x) (accepted-prefix rest s (r .run) (f .offers))
+    ∙ take-take (length (along sentBy s (r .run))) (length (along accepted s (r .run))) rest short
+
+-- one round
+pub record RoundSound (rest : List ℕ) (s : State) (r : Round) : Type 0 where
+  pub number : numberRead s r ≡ length (takenIn s r)
+  pub beginning : takenIn s r ≡ take (length (takenIn s r)) rest
+
+below : (n : ℕ) → n ≤ 16777215 → n % 16777216 ≡ n
+below n h = omega arith
+
+pub round : (rest : List ℕ) (s : State) (r : Round) → Follows rest s r → RoundSound rest s r
+round rest s r f =
+    let c = cut-and-read s r (f .proceeds) in
+    record {
+      number = c .number ∙ below (length (takenIn s r)) (f .bound);
+      beginning = c .inRun ∙ sent-prefix rest s r f ∙ ap (λ (x : List ℕ). take (length x) rest) (sym (c .inRun));
+    }
+
+-- THE CHAIN, from the byte at which a round begins
+pub chain-from : (whole : List ℕ) (first : ℕ) (s : State) (rounds : List Round) → Chain whole first s rounds → taken s rounds ≡ take (length (taken s rounds)) (drop first whole)
+chain-from whole first s [] h = refl
+chain-from whole first s (r ∷ more) h =
+    let n = round (drop first whole) s r (h .0) in
+    let p : takenIn s r ≡ take (numberRead s r) (drop first whole) = rw (n .number) (n .beginning) in
+    let later = chain-from whole (first + numberRead s r) (afterRound s r) more (h .1) in
+    rw (length-append, take-add, drop-drop, ← n .number)
+    (ap (λ (x : List ℕ). x ++ taken (afterRound s r) more) p ∙ ap (λ (x : List ℕ). take (numberRead s r) (drop first whole) ++ x) later)
+
+-- over any number of rounds the target takes a beginning of the driver's data
+pub chain : (whole : List ℕ) (s : State) (rounds : List Round) → Chain whole 0 s rounds → taken s rounds ≡ take (length (taken s rounds)) whole
+chain whole s rounds h = chain-from whole 0 s rounds h
+
+-- and the driver knows how many: where it has come to is the number taken
+pub chain-reached : (whole : List ℕ) (first : ℕ) (s : State) (rounds : List Round) → Chain whole first s rounds → reached first s rounds ≡ first + length (taken s rounds)
+chain-reached whole first s [] h = sym (add-zero first)
+chain-reached whole first s (r ∷ more) h =
+    let n = (round (drop first whole) s r (h .0)) .number in
+    chain-reached whole (first + numberRead s r) (afterRound s r) more (h .1) ∙ rw (length-append, n) (omega arith)
+
+-- where every clearing keeps the paper's condition, no byte is sent but those taken in runs
+pub only-taken-is-sent : (s : State) (rounds : List Round) → AllCleared s rounds → along sentBy s (allRecords rounds) ≡ taken s rounds
+only-taken-is-sent s [] h = refl
+only-taken-is-sent s (r ∷ more) h =
+    along-append sentBy s (recordsOf r) (r .clearing ++ allRecords more)
+    ∙ ap (λ (x : List ℕ). takenIn s r ++ x)
+    (ap (λ (x : State). along sentBy x (r .clearing ++ allRecords more)) (after-append s (r .run) (r .cut ∷ r .reading))
+    ∙ along-append sentBy (afterReading s r) (r .clearing) (allRecords more)
+    ∙ rw (clearing-sends-nothing (afterReading s r) (r .clearing) (h .0)) (only-taken-is-sent (afterRound s r) more (h .1)))
+
+-- after a cut the concrete clearing is always there
+pub clearing-after-cut : (s : State) (r : Round) → Proceeds s r → (eightbit : Bool) → ClearingWorks (afterReading s r) eightbit
+clearing-after-cut s r p eightbit = clearing-works (afterReading s r) eightbit (cut-and-read s r p .moment .room)
+
+-- AT THE BOUND: a round of 16,777,216 bytes reads 0, and the driver would begin again with the bytes that the target has taken
+pub at-the-bound : (s : State) (r : Round) → Proceeds s r → length (takenIn s r) ≡ 16777216 → numberRead s r ≡ 0
+at-the-bound s r p h = cut-and-read s r p .number ∙ ap (λ (n : ℕ). n % 16777216) h

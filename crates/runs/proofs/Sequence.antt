@@ -1,0 +1,420 @@
+-- The concrete clearing reaches the start of a run, whatever the lines are.
+use mathlib.Core.Path.{_≡_, refl, sym, _∙_, ap}
+use mathlib.Core.Bool.{Bool, true, false, not, _&&_, _||_, cond, and-false, or-true}
+use mathlib.Core.List.{List, [], _∷_, _++_}
+use Prim.Native.Nat.{ℕ, _+_, _≤_}
+use native.Mathlib.Omega.{arith}
+use lib.Dec.{eqb, ltb}
+use lib.ListN.{length, drop}
+use borrow.Author.Tests.{le-ltb}
+use Rattle.rules.specs.Numbers.{bit}
+use Rattle.rules.specs.Map.{offsetOf, table, writtenAt}
+use Rattle.rules.specs.State.{State, Transfer}
+use Rattle.rules.specs.Seen.{normal, path}
+use Rattle.rules.specs.Records.{decode, fieldsOf, wellFormed}
+use Rattle.rules.specs.Events.{writes, reads, valueOf, offered, asked, wide, portWrite, portRead, linesAfter}
+use Rattle.rules.specs.Codes.{absent, testValue, shut, noRoom, noBytes, accessCode, isDone}
+use Rattle.rules.specs.StepA.{clrstcnt, clrch, rstfifo, latchAccess, automaticAck, registersA, hostA, counterA, transferA, afterA}
+use Rattle.rules.specs.StepB.{reqRises, synchronousReq, registersB, edges, transferB, applied, edgesOf, afterB}
+use Rattle.rules.specs.StepC.{Settling, conditions, started, turns, settledC}
+use Rattle.rules.specs.StepD.{finished, afterD}
+use Rattle.rules.specs.Step.{refused, done, access, stepEvent, stepDecoded, step, after}
+use Rattle.rules.specs.declared.registers.Registers.{Registers}
+use Rattle.rules.specs.declared.codes.Code.{Code}
+use Rattle.rules.specs.declared.codes.Code.the-variants.{Done}
+use Rattle.rules.specs.declared.map.Register.{Register}
+use Rattle.rules.specs.declared.map.Register.the-variants.{SXFRCTL0, SCSISIGO, DMACNTRL0}
+use Rattle.rules.specs.declared.records.Event.{Event}
+use Rattle.rules.specs.declared.records.Event.the-variants.{Write}
+use Rattle.rules.specs.declared.records.Decoded.{Decoded}
+use Rattle.rules.specs.declared.records.Decoded.the-variants.{Well}
+use Rattle.runs.specs.Run.{Starts, accepted}
+use Rattle.runs.specs.Clearing.{switchedOff, bothEmpty, mayClear, allClear, allDone, writeRecord, manualValue, controlValue, clearValue, signalValue, openValue, clearingOf}
+use Rattle.runs.proofs.Settles.{settle-still, no-path-no-move, disabled-no-handshake, empty-no-move, empty-no-handshake}
+
+-- a register write brings no edge of REQ
+module _ (s : State) (offset value : ℕ) where
+  no-edge : (a b : Bool) → (a && not a && b) ≡ false
+  no-edge true b = refl
+  no-edge false b = refl
+
+  no-req : reqRises s (afterA s (Write offset value)) ≡ false
+  unfolding reqRises afterA linesAfter
+  no-req = no-edge (s .lines .req) _
+
+  stores-none : (edgesOf s (Write offset value)) .stored ≡ false
+  unfolding edgesOf edges synchronousReq
+  stores-none = rw no-req
+
+  counts-none : (edgesOf s (Write offset value)) .counted ≡ false
+  unfolding edgesOf edges synchronousReq
+  counts-none = rw no-req
+
+  not-beyond : (edgesOf s (Write offset value)) .beyond ≡ false
+  unfolding edgesOf edges synchronousReq
+  not-beyond = rw no-req
+
+-- Manual mode with SCSIEN 0
+record ManualMode (r : Registers) : Type 0 where
+  scsien : r .sxfrctl0 .scsien ≡ false
+  dmaen : r .sxfrctl0 .dmaen ≡ false
+  spioen : r .sxfrctl0 .spioen ≡ false
+
+mode-B : (s : State) (e : Event) → ManualMode ((afterA s e) .registers) → ManualMode ((afterB s e) .registers)
+unfolding afterB applied registersB
+mode-B s e m = record { scsien = rw (m .scsien) (and-false (not ((edgesOf s e) .rstrises))); dmaen = m .dmaen; spioen = m .spioen }
+
+-- in Manual mode settling changes nothing
+manual-no-path : (r : Registers) → r .sxfrctl0 .dmaen ≡ false → path r ≡ false
+unfolding path normal
+manual-no-path r h = rw (h, and-false)
+
+no-path-disables : (s : State) → path (s .registers) ≡ false → (conditions s) .enabled ≡ false
+unfolding conditions
+no-path-disables s h = rw (h, and-false)
+
+manual-settles : (s : State) (e : Event) → ManualMode ((afterB s e) .registers) → settledC s e ≡ started (afterB s e)
+unfolding settledC conditions started
+manual-settles s e m =
+    let p = manual-no-path ((afterB s e) .registers) (m .dmaen) in
+    settle-still (conditions (afterB s e)) (started (afterB s e)) (no-path-no-move (conditions (afterB s e)) ((afterB s e) .transfer) p)
+    (disabled-no-handshake (conditions (afterB s e)) ((afterB s e) .transfer) (no-path-disables (afterB s e) p)) turns
+
+-- outbound with both FIFOs empty it changes nothing either
+empty-settles : (s : State) (e : Event) → (afterB s e) .registers .dmacntrl0 .write ≡ true → (afterB s e) .transfer .host ≡ [] → (afterB s e) .transfer .scsi ≡ [] → settledC s e ≡ started (afterB s e)
+unfolding settledC conditions started
+empty-settles s e w h k =
+    settle-still (conditions (afterB s e)) (started (afterB s e)) (empty-no-move (conditions (afterB s e)) ((afterB s e) .transfer) w h)
+    (empty-no-handshake (conditions (afterB s e)) ((afterB s e) .transfer) w k) turns
+
+-- the write of a register that is there, with room in the host FIFO: it is done
+pub record Plain (r : Register) (value : ℕ) : Type 0 where
+  pub decoded : decode (writeRecord r value) ≡ Well (Write (offsetOf r) value)
+  pub present : absent (Write (offsetOf r) value) ≡ false
+  pub untested : testValue (Write (offsetOf r) value) ≡ false
+  pub portless : (registers : Registers) → shut registers (Write (offsetOf r) value) ≡ false
+  pub offers : offered (Write (offsetOf r) value) ≡ []
+
+module _ (s : State) (r : Register) (value : ℕ) (p : Plain r value) (room : length (s .transfer .host) ≤ 128) where
+  abbrev written : Event
+  written = Write (offsetOf r) value
+
+  has-room : noRoom s written ≡ false
+  unfolding noRoom
+  has-room = rw (p .offers) (le-ltb 128 (length (s .transfer .host) + 0) (omega arith))
+
+  asks-nothing : noBytes s written ≡ false
+  unfolding noBytes asked
+  asks-nothing = le-ltb (length (s .transfer .host)) 0 (omega arith)
+
+  write-code : accessCode s written ≡ Done
+  unfolding accessCode
+  write-code = rw (p .present, p .untested, p .portless (s .registers), has-room, asks-nothing)
+
+  write-steps : step s (writeRecord r value) ≡ done s written
+  unfolding step stepDecoded stepEvent access
+  write-steps = rw (p .decoded, write-code)
+
+  done-code-0 : (done s written) .code ≡ Done
+  unfolding done
+  done-code-0 = rw (not-beyond s (offsetOf r) value)
+
+  pub write-answers : (step s (writeRecord r value)) .code ≡ Done
+  write-answers = rw write-steps done-code-0
+
+  -- where settling changes nothing, the write leaves what B leaves
+  module _ (rest : settledC s written ≡ started (afterB s written)) where
+    after-registers : (step s (writeRecord r value)) .state .registers ≡ (afterB s written) .registers
+    unfolding done afterD finished
+    after-registers = rw write-steps
+
+    after-transfer : (step s (writeRecord r value)) .state .transfer ≡ (afterB s written) .transfer
+    unfolding done afterD finished started
+    after-transfer = rw (write-steps, rest)
+
+-- the five writes are plain
+plain-manual : Plain SXFRCTL0 manualValue
+unfolding decode fieldsOf wellFormed absent writtenAt table testValue writes shut portWrite portRead offered
+plain-manual = record { decoded = refl; present = refl; untested = refl; portless = λ x. refl; offers = refl }
+
+plain-control : (eightbit : Bool) → Plain DMACNTRL0 (controlValue eightbit)
+unfolding decode fieldsOf wellFormed absent writtenAt table testValue writes shut portWrite portRead offered
+plain-control true = record { decoded = refl; present = refl; untested = refl; portless = λ x. refl; offers = refl }
+plain-control false = record { decoded = refl; present = refl; untested = refl; portless = λ x. refl; offers = refl }
+
+plain-clear : Plain SXFRCTL0 clearValue
+unfolding decode fieldsOf wellFormed absent writtenAt table testValue writes shut portWrite portRead offered
+plain-clear = record { decoded = refl; present = refl; untested = refl; portless = λ x. refl; offers = refl }
+
+plain-signals : Plain SCSISIGO signalValue
+unfolding decode fieldsOf wellFormed absent writtenAt table testValue writes shut portWrite portRead offered
+plain-signals = record { decoded = refl; present = refl; untested = refl; portless = λ x. refl; offers = refl }
+
+plain-open : Plain SXFRCTL0 openValue
+unfolding decode fieldsOf wellFormed absent writtenAt table testValue writes shut portWrite portRead offered
+plain-open = record { decoded = refl; present = refl; untested = refl; portless = λ x. refl; offers = refl }
+
+-- 341h with 00h: Manual mode, and the host FIFO as it was
+record Manual (s : State) : Type 0 where
+  room : length (s .transfer .host) ≤ 128
+  mode : ManualMode (s .registers)
+
+module _ (s : State) (room : length (s .transfer .host) ≤ 128) where
+  manual-A : ManualMode ((afterA s (Write 0x01 manualValue)) .registers)
+  unfolding afterA registersA writes valueOf
+  manual-A = record { scsien = refl; dmaen = refl; spioen = refl }
+
+  manual-host : (afterB s (Write 0x01 manualValue)) .transfer .host ≡ s .transfer .host
+  unfolding afterB applied transferB afterA transferA hostA rstfifo writes portWrite asked
+  manual-host = refl
+
+  after-manual : Manual ((step s (writeRecord SXFRCTL0 manualValue)) .state)
+  after-manual =
+      let mode = mode-B s (Write 0x01 manualValue) manual-A in
+      let rest = manual-settles s (Write 0x01 manualValue) mode in
+      record {
+        room = rw (after-transfer s SXFRCTL0 manualValue plain-manual room rest, manual-host) room;
+        mode = rw (after-registers s SXFRCTL0 manualValue plain-manual room rest) mode;
+      }
+
+-- 352h with RSTFIFO and WRITE
+record Emptied (s : State) : Type 0 where
+  host : s .transfer .host ≡ []
+  mode : ManualMode (s .registers)
+  write : s .registers .dmacntrl0 .write ≡ true
+
+module _ (s : State) (m : Manual s) (eightbit : Bool) where
+  emptied-A : ManualMode ((afterA s (Write 0x12 (controlValue eightbit))) .registers)
+  unfolding afterA registersA writes valueOf
+  emptied-A = record { scsien = m .mode .scsien; dmaen = m .mode .dmaen; spioen = m .mode .spioen }
+
+  emptied-write : (afterB s (Write 0x12 (controlValue eightbit))) .registers .dmacntrl0 .write ≡ true
+  unfolding afterB applied registersB afterA registersA writes valueOf
+  emptied-write = go eightbit
+    where
+      go : (b : Bool) → bit (controlValue b) 3 ≡ true
+      go true = refl
+      go false = refl
+
+  emptied-host : (afterB s (Write 0x12 (controlValue eightbit))) .transfer .host ≡ []
+  unfolding afterB applied transferB afterA transferA hostA rstfifo writes valueOf
+  emptied-host = rw (go eightbit)
+    where
+      go : (b : Bool) → bit (controlValue b) 1 ≡ true
+      go true = refl
+      go false = refl
+
+  after-emptied : Emptied ((step s (writeRecord DMACNTRL0 (controlValue eightbit))) .state)
+  after-emptied =
+      let mode = mode-B s (Write 0x12 (controlValue eightbit)) emptied-A in
+      let rest = manual-settles s (Write 0x12 (controlValue eightbit)) mode in
+      let p = plain-control eightbit in
+      record {
+        host = rw (after-transfer s DMACNTRL0 (controlValue eightbit) p (m .room) rest) emptied-host;
+        mode = rw (after-registers s DMACNTRL0 (controlValue eightbit) p (m .room) rest) mode;
+        write = rw (after-registers s DMACNTRL0 (controlValue eightbit) p (m .room) rest) emptied-write;
+      }
+
+-- 341h with CLRSTCNT and CLRCH
+record Zeroed (s : State) : Type 0 where
+  host : s .transfer .host ≡ []
+  scsi : s .transfer .scsi ≡ []
+  counter : s .transfer .counter ≡ 0
+  offset : s .transfer .offset ≡ 0
+  mode : ManualMode (s .registers)
+  write : s .registers .dmacntrl0 .write ≡ true
+
+-- an offset of 0 stays 0 where no REQ is counted
+offset-B : (s : State) (o v : ℕ) → (afterA s (Write o v)) .transfer .offset ≡ 0 → (afterB s (Write o v)) .transfer .offset ≡ 0
+unfolding afterB applied transferB
+offset-B s o v h = rw (counts-none s o v, h) (go ((edgesOf s (Write o v)) .rstrises || (edgesOf s (Write o v)) .free))
+  where
+    go : (a : Bool) → _≡_ {A = ℕ} (cond a 0 0) 0
+    go true = refl
+    go false = refl
+
+scsi-B : (s : State) (o v : ℕ) → (afterB s (Write o v)) .transfer .scsi ≡ (afterA s (Write o v)) .transfer .scsi
+unfolding afterB applied transferB
+scsi-B s o v = rw (stores-none s o v)
+
+-- and a bit of 343h that is 0 after A stays 0
+ioexp-B : (s : State) (e : Event) → (afterA s e) .registers .scsisig .ioexp ≡ false → (afterB s e) .registers .scsisig .ioexp ≡ false
+unfolding afterB applied registersB
+ioexp-B s e h = rw h (and-false (not ((edgesOf s e) .rstrises || (edgesOf s e) .free)))
+
+acko-B : (s : State) (e : Event) → (afterA s e) .registers .scsisig .acko ≡ false → (afterB s e) .registers .scsisig .acko ≡ false
+unfolding afterB applied registersB
+acko-B s e h = rw h (and-false (not ((edgesOf s e) .rstrises || (edgesOf s e) .free)))
+
+module _ (s : State) (m : Emptied s) where
+  zeroed-room : length (s .transfer .host) ≤ 128
+  zeroed-room = rw (m .host) (omega arith)
+
+  zeroed-mode : ManualMode ((afterA s (Write 0x01 clearValue)) .registers)
+  unfolding afterA registersA writes valueOf
+  zeroed-mode = record { scsien = refl; dmaen = refl; spioen = refl }
+
+  zeroed-write : (afterB s (Write 0x01 clearValue)) .registers .dmacntrl0 .write ≡ true
+  unfolding afterB applied registersB afterA registersA writes valueOf
+  zeroed-write = m .write
+
+  zeroed-A : ((afterA s (Write 0x01 clearValue)) .transfer .scsi ≡ []) × ((afterA s (Write 0x01 clearValue)) .transfer .offset ≡ 0)
+  unfolding afterA transferA clrch writes valueOf
+  zeroed-A = (refl, refl)
+
+  zeroed-B : ((afterB s (Write 0x01 clearValue)) .transfer .host ≡ []) × ((afterB s (Write 0x01 clearValue)) .transfer .counter ≡ 0)
+  unfolding afterB applied transferB afterA transferA hostA counterA clrstcnt rstfifo writes valueOf portWrite asked
+  zeroed-B = (m .host, refl)
+
+  after-zeroed : Zeroed ((step s (writeRecord SXFRCTL0 clearValue)) .state)
+  after-zeroed =
+      let mode = mode-B s (Write 0x01 clearValue) zeroed-mode in
+      let rest = manual-settles s (Write 0x01 clearValue) mode in
+      let transfer = after-transfer s SXFRCTL0 clearValue plain-clear zeroed-room rest in
+      let registers = after-registers s SXFRCTL0 clearValue plain-clear zeroed-room rest in
+      record {
+        host = rw transfer (zeroed-B .0);
+        scsi = rw transfer (scsi-B s 0x01 clearValue ∙ zeroed-A .0);
+        counter = rw transfer (zeroed-B .1);
+        offset = rw transfer (offset-B s 0x01 clearValue (zeroed-A .1));
+        mode = rw registers mode;
+        write = rw registers zeroed-write;
+      }
+
+-- 343h with ACKO 0 and IOEXP 0
+record Ready (s : State) : Type 0 where
+  zeroed : Zeroed s
+  ioexp : s .registers .scsisig .ioexp ≡ false
+  acko : s .registers .scsisig .acko ≡ false
+
+module _ (s : State) (m : Zeroed s) where
+  ready-room : length (s .transfer .host) ≤ 128
+  ready-room = rw (m .host) (omega arith)
+
+  ready-mode : ManualMode ((afterA s (Write 0x03 signalValue)) .registers)
+  unfolding afterA registersA writes valueOf
+  ready-mode = record { scsien = m .mode .scsien; dmaen = m .mode .dmaen; spioen = m .mode .spioen }
+
+  ready-write : (afterB s (Write 0x03 signalValue)) .registers .dmacntrl0 .write ≡ true
+  unfolding afterB applied registersB afterA registersA writes valueOf
+  ready-write = m .write
+
+  ready-signals : ((afterA s (Write 0x03 signalValue)) .registers .scsisig .ioexp ≡ false) × ((afterA s (Write 0x03 signalValue)) .registers .scsisig .acko ≡ false)
+  unfolding afterA registersA writes valueOf
+  ready-signals = (refl, refl)
+
+  ready-A : ((afterA s (Write 0x03 signalValue)) .transfer .scsi ≡ []) × ((afterA s (Write 0x03 signalValue)) .transfer .offset ≡ 0)
+  unfolding afterA transferA clrch writes valueOf
+  ready-A = (m .scsi, m .offset)
+
+  ready-B : ((afterB s (Write 0x03 signalValue)) .transfer .host ≡ []) × ((afterB s (Write 0x03 signalValue)) .transfer .counter ≡ 0)
+  unfolding afterB applied transferB afterA transferA hostA counterA clrstcnt rstfifo automaticAck latchAccess writes reads valueOf portWrite asked
+  ready-B = (m .host, m .counter)
+
+  after-ready : Ready ((step s (writeRecord SCSISIGO signalValue)) .state)
+  after-ready =
+      let mode = mode-B s (Write 0x03 signalValue) ready-mode in
+      let rest = manual-settles s (Write 0x03 signalValue) mode in
+      let transfer = after-transfer s SCSISIGO signalValue plain-signals ready-room rest in
+      let registers = after-registers s SCSISIGO signalValue plain-signals ready-room rest in
+      record {
+        zeroed =
+            record {
+              host = rw transfer (ready-B .0);
+              scsi = rw transfer (scsi-B s 0x03 signalValue ∙ ready-A .0);
+              counter = rw transfer (ready-B .1);
+              offset = rw transfer (offset-B s 0x03 signalValue (ready-A .1));
+              mode = rw registers mode;
+              write = rw registers ready-write;
+            };
+        ioexp = rw registers (ioexp-B s (Write 0x03 signalValue) (ready-signals .0));
+        acko = rw registers (acko-B s (Write 0x03 signalValue) (ready-signals .1));
+      }
+
+outward-path : (r : Registers) → r .dmacntrl0 .write ≡ true → r .sxfrctl0 .dmaen ≡ true → r .sxfrctl0 .spioen ≡ false → r .scsisig .ioexp ≡ false → path r ≡ true
+unfolding path normal
+outward-path r w d p i = rw (w, d, p, i)
+
+-- 341h with SCSIEN, DMAEN, CHEN: the path opens on empty FIFOs
+module _ (s : State) (m : Ready s) where
+  open-room : length (s .transfer .host) ≤ 128
+  open-room = rw (m .zeroed .host) (omega arith)
+
+  open-registers : ((afterB s (Write 0x01 openValue)) .registers .dmacntrl0 .write ≡ true) × ((afterB s (Write 0x01 openValue)) .registers .sxfrctl0 .dmaen ≡ true) × ((afterB s (Write 0x01 openValue)) .registers .sxfrctl0 .spioen ≡ false)
+  unfolding afterB applied registersB afterA registersA writes valueOf
+  open-registers = (m .zeroed .write, refl, refl)
+
+  open-signals : ((afterA s (Write 0x01 openValue)) .registers .scsisig .ioexp ≡ false) × ((afterA s (Write 0x01 openValue)) .registers .scsisig .acko ≡ false)
+  unfolding afterA registersA writes valueOf
+  open-signals = (m .ioexp, m .acko)
+
+  open-A : ((afterA s (Write 0x01 openValue)) .transfer .scsi ≡ []) × ((afterA s (Write 0x01 openValue)) .transfer .offset ≡ 0)
+  unfolding afterA transferA clrch writes valueOf
+  open-A = (m .zeroed .scsi, m .zeroed .offset)
+
+  open-B : ((afterB s (Write 0x01 openValue)) .transfer .host ≡ []) × ((afterB s (Write 0x01 openValue)) .transfer .counter ≡ 0)
+  unfolding afterB applied transferB afterA transferA hostA counterA clrstcnt rstfifo automaticAck latchAccess writes reads valueOf portWrite asked
+  open-B = (m .zeroed .host, m .zeroed .counter)
+
+  after-open : Starts true ((step s (writeRecord SXFRCTL0 openValue)) .state)
+  after-open =
+      let scsi = scsi-B s 0x01 openValue ∙ open-A .0 in
+      let rest = empty-settles s (Write 0x01 openValue) (open-registers .0) (open-B .0) scsi in
+      let transfer = after-transfer s SXFRCTL0 openValue plain-open open-room rest in
+      let registers = after-registers s SXFRCTL0 openValue plain-open open-room rest in
+      record {
+        host = rw transfer (open-B .0);
+        scsi = rw transfer scsi;
+        counter = rw transfer (open-B .1);
+        offset = rw transfer (offset-B s 0x01 openValue (open-A .1));
+        acko = rw registers (acko-B s (Write 0x01 openValue) (open-signals .1));
+        opened =
+            rw registers
+            (outward-path ((afterB s (Write 0x01 openValue)) .registers) (open-registers .0) (open-registers .1) (open-registers .2)
+            (ioexp-B s (Write 0x01 openValue) (open-signals .0)));
+        direction = rw registers (open-registers .0);
+      }
+
+-- Manual mode with SCSIEN 0 is within the paper's condition
+mode-clears : (s : State) (bytes : List ℕ) → ManualMode ((step s bytes) .state .registers) → mayClear s bytes ≡ true
+unfolding mayClear switchedOff
+mode-clears s bytes m = rw (m .scsien, m .spioen)
+
+-- and so is the opening of the path on empty FIFOs
+ready-empty : (s : State) → Ready s → bothEmpty s ≡ true
+unfolding bothEmpty
+ready-empty s m = rw (m .zeroed .host, m .zeroed .scsi)
+
+open-takes-none : (s : State) → Ready s → accepted s (writeRecord SXFRCTL0 openValue) ≡ []
+open-takes-none s m = rw (write-answers s SXFRCTL0 openValue plain-open (open-room s m), plain-open .decoded) (plain-open .offers)
+
+open-clears : (s : State) → Ready s → mayClear s (writeRecord SXFRCTL0 openValue) ≡ true
+unfolding mayClear
+open-clears s m =
+    rw (ready-empty s m, open-takes-none s m) (or-true (switchedOff ((step s (writeRecord SXFRCTL0 openValue)) .state)))
+
+pub record ClearingWorks (s : State) (eightbit : Bool) : Type 0 where
+  pub starts : Starts true (after s (clearingOf eightbit))
+  pub allowed : allClear s (clearingOf eightbit) ≡ true
+  pub answered : allDone s (clearingOf eightbit) ≡ true
+
+-- THE CLEARING THAT A DRIVER CAN USE: it reaches the start of a write run from every state whose host FIFO holds at most 128 bytes,
+-- whatever the lines are; it keeps the paper's condition, and each of its records gets code 0
+pub clearing-works : (s : State) (eightbit : Bool) → length (s .transfer .host) ≤ 128 → ClearingWorks s eightbit
+unfolding clearingOf
+clearing-works s eightbit room =
+    let s1 : State = (step s (writeRecord SXFRCTL0 manualValue)) .state in
+    let s2 : State = (step s1 (writeRecord DMACNTRL0 (controlValue eightbit))) .state in
+    let s3 : State = (step s2 (writeRecord SXFRCTL0 clearValue)) .state in
+    let s4 : State = (step s3 (writeRecord SCSISIGO signalValue)) .state in
+    let a = after-manual s room in
+    let b = after-emptied s1 a eightbit in
+    let c = after-zeroed s2 b in
+    let d = after-ready s3 c in
+    record {
+      starts = after-open s4 d;
+      allowed =
+          rw (mode-clears s _ (a .mode), mode-clears s1 _ (b .mode), mode-clears s2 _ (c .mode), mode-clears s3 _ (d .zeroed .mode), open-clears s4 d);
+      answered =
+          rw (write-answers s SXFRCTL0 manualValue plain-manual room, write-answers s1 DMACNTRL0 (controlValue eightbit) (plain-control eightbit) (a .room), write-answers s2 SXFRCTL0 clearValue plain-clear (zeroed-room s2 b), write-answers s3 SCSISIGO signalValue plain-signals (ready-room s3 c), write-answers s4 SXFRCTL0 openValue plain-open (open-room s4 d));
+    }

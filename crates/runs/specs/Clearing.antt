@@ -1,0 +1,81 @@
+-- The clearing: from the cut to the next start.
+use Prim.Native.Nat.{ℕ, _+_}
+use mathlib.Core.Bool.{Bool, true, false, not, _&&_, _||_, cond}
+use mathlib.Core.List.{List, [], _∷_}
+use lib.Dec.{eqb}
+use lib.ListN.{length}
+use Rattle.rules.specs.Numbers.{bit}
+use Rattle.rules.specs.Map.{offsetOf}
+use Rattle.rules.specs.State.{State}
+use Rattle.rules.specs.Events.{writes, valueOf}
+use Rattle.rules.specs.Codes.{isDone}
+use Rattle.rules.specs.Step.{step}
+use Rattle.rules.specs.declared.map.Register.{Register}
+use Rattle.rules.specs.declared.map.Register.the-variants.{SXFRCTL0, SCSISIGO, DMACNTRL0}
+use Rattle.rules.specs.declared.records.Event.{Event}
+use Rattle.runs.specs.Comes.{mayCome}
+use Rattle.runs.specs.Run.{accepted}
+
+-- "SCSIEN and SPIOEN 0"
+unfoldable pub switchedOff : State → Bool
+switchedOff s = not (s .registers .sxfrctl0 .scsien) && not (s .registers .sxfrctl0 .spioen)
+
+unfoldable pub bothEmpty : State → Bool
+bothEmpty s = eqb (length (s .transfer .host)) 0 && eqb (length (s .transfer .scsi)) 0
+
+-- "all with SCSIEN and SPIOEN 0 until both FIFOs are empty": a record after which they are 0; or both FIFOs are empty before it,
+-- and it brings the port no byte, since port writes belong to a run
+unfoldable pub mayClear : State → List ℕ → Bool
+mayClear s bytes = switchedOff ((step s bytes) .state) || (bothEmpty s && eqb (length (accepted s bytes)) 0)
+
+abbrev pub allClear : State → List (List ℕ) → Bool
+allClear s [] = true
+allClear s (bytes ∷ more) = mayClear s bytes && allClear ((step s bytes) .state) more
+
+-- until the FIFOs are empty: SCSIEN and SPIOEN are 0 after each record, and 343h is written "with ACKO 0"
+unfoldable pub leavesAcko : Event → Bool
+leavesAcko e = not (writes e SCSISIGO && bit (valueOf e) 0)
+
+abbrev pub allOff : State → List (List ℕ) → Bool
+allOff s [] = true
+allOff s (bytes ∷ more) =
+    switchedOff ((step s bytes) .state) && mayCome leavesAcko s bytes && allOff ((step s bytes) .state) more
+
+-- every record gets code 0
+abbrev pub allDone : State → List (List ℕ) → Bool
+allDone s [] = true
+allDone s (bytes ∷ more) = isDone ((step s bytes) .code) && allDone ((step s bytes) .state) more
+
+-- the record of a register write: kind 1, the offset, the value
+abbrev pub writeRecord : Register → ℕ → List ℕ
+writeRecord r value = (32 + offsetOf r) ∷ 0 ∷ 0 ∷ value ∷ []
+
+-- Manual mode: the path is shut, so that no FIFO refills the other
+abbrev pub manualValue : ℕ
+manualValue = 0x00
+
+-- RSTFIFO, with ENDMA, WRITE 1 and the port's width
+abbrev pub controlValue : Bool → ℕ
+controlValue eightbit = cond eightbit 0xCA 0x8A
+
+-- CLRSTCNT and CLRCH
+abbrev pub clearValue : ℕ
+clearValue = 0x12
+
+-- ACKO 0, and data out expected
+abbrev pub signalValue : ℕ
+signalValue = 0x00
+
+-- SCSIEN, DMAEN, CHEN: the path opens on empty FIFOs
+abbrev pub openValue : ℕ
+openValue = 0xE0
+
+-- a clearing that a driver can use: "empties both FIFOs, zeroes counter and offset, and writes 343h with ACKO 0 ... and starts anew"
+unfoldable pub clearingOf : Bool → List (List ℕ)
+clearingOf eightbit =
+    writeRecord SXFRCTL0 manualValue
+    ∷ writeRecord DMACNTRL0 (controlValue eightbit)
+    ∷ writeRecord SXFRCTL0 clearValue
+    ∷ writeRecord SCSISIGO signalValue
+    ∷ writeRecord SXFRCTL0 openValue
+    ∷ []
