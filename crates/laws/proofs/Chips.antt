@@ -1,14 +1,9 @@
 -- A tidy chip value: its parts are those of the state that it stands for.
 use mathlib.Core.Path.{_≡_, ap}
-<<<<<<< HEAD
 use lib.ListN.{length}
 use Rattle.rules.specs.Chips.{pathOf, view, chipOf}
 use Rattle.rules.specs.Ranges.{Tidy}
 use Rattle.rules.specs.declared.chip.DataPath.{DataPath}
-=======
-use Rattle.rules.specs.Chips.{pathOf, view, chipOf}
-use Rattle.rules.specs.Ranges.{Tidy}
->>>>>>> 71960690b7cfa4aafd3e2d04afb16c7514461ce3
 use Rattle.rules.specs.declared.chip.Chip.{Chip}
 
 module _ (c : Chip) (t : Tidy c) where
@@ -31,7 +26,6 @@ module _ (c : Chip) (t : Tidy c) where
   pub tidy-identity : c .identity ≡ view c .identity
   unfolding chipOf
   tidy-identity = ap (λ (x : Chip). x .identity) (t .packed)
-<<<<<<< HEAD
 
   pub tidy-offset : c .path .offset ≡ view c .transfer .offset
   unfolding pathOf
@@ -49,5 +43,3 @@ module _ (c : Chip) (t : Tidy c) where
   pub tidy-scsi : c .path .scsi .count ≡ length (view c .transfer .scsi)
   unfolding pathOf
   tidy-scsi = ap (λ (p : DataPath). p .scsi .count) tidy-path
-=======
->>>>>>> 71960690b7cfa4aafd3e2d04afb16c7514461ce3
