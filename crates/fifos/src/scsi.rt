@@ -51,6 +51,23 @@ pub fn popped(f: ScsiFifo, k: usize) -> ScsiFifo
     }
 }
 
+// The FIFO without its oldest byte: all eight places move up by one, so that it is one shift.
+pub fn without_oldest(f: ScsiFifo) -> ScsiFifo
+    requires { ⌜ ScsiTidy f ⌝ }
+    ensures { λ r. ⌜ r ≡ scsiOf (drop 1 (scsiView f)) ⌝ }
+{
+    let n = f.count;
+    if n == 0 {
+        return empty();
+    }
+    let a = f.bytes;
+    let w = window(a, 1, 7);
+    ScsiFifo {
+        bytes: w,
+        count: n - 1,
+    }
+}
+
 // Any value of the struct in its one form.
 pub fn tidied(f: ScsiFifo) -> ScsiFifo
     ensures { λ r. ⌜ r ≡ scsiOf (scsiView f) ⌝ }

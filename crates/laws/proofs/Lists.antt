@@ -1,12 +1,12 @@
 -- Bytes in places: laws of padded lists and of their parts, over the number of places.
-use Prim.Native.Nat.{ℕ, zero, suc, _+_, _-_, _<_, _≤_, min}
-use mathlib.Core.Path.{_≡_, refl, ap, sym, _∙_}
+use Prim.Native.Nat.{ℕ, suc, _+_, _-_, _<_, _≤_, min}
+use mathlib.Core.Path.{_≡_, ap, sym, _∙_}
 use mathlib.Core.List.{List, [], _∷_, _++_, append-assoc}
 use native.Mathlib.Omega.{arith}
 use native.Mathlib.Numerals.{add-one}
 use native.Mathlib.Decide.{decLe}
-use lib.ListN.{length, take, drop, set, getD, replicate, length-append, length-take, length-drop, length-replicate, drop-of-length-le, List·getD-eq-default}
-use lib.Seq.{set-append-seam, take-append-seam, take-suc, length-take-le, getD-drop, take-all, take-add, drop-at}
+use lib.ListN.{length, take, drop, set, getD, replicate, length-append, length-take, length-drop, length-replicate, replicate-append-replicate, drop-of-length-le, List·getD-eq-default}
+use lib.Seq.{set-append-seam, take-append-seam, take-suc, length-take-le, getD-drop, take-all, take-add, drop-at, drop-append-le}
 use Rattle.rules.specs.Numbers.{padded}
 
 -- the places that are left are one and those after it
@@ -83,6 +83,19 @@ module _ (n c : ℕ) (bs : List ℕ) (b : ℕ) (e : bs ≡ padded n (take c bs))
   push-at h =
       let p : set (padded n (take c bs)) (length (take c bs)) b ≡ padded n (take c bs ++ (b ∷ [])) = padded-push n (take c bs) b (omega arith) in
       cc
+
+-- all places moved up by k, of which as many are taken
+pub padded-shift : (n k : ℕ) (l : List ℕ) → k ≤ length l → length l ≤ n → padded n (take (n - k) (drop k (padded n l))) ≡ padded n (drop k l)
+unfolding padded
+padded-shift n k l h g =
+    let z : List ℕ = replicate (n - length l) 0 in
+    let y : List ℕ = replicate (n - (n - k)) 0 in
+    let d : drop k (l ++ z) ≡ drop k l ++ z = drop-append-le k l z h in
+    let m : length (drop k l ++ z) ≡ n - k = simp (length-append, length-drop, length-replicate) (omega arith) in
+    let t : take (n - k) (drop k l ++ z) ≡ drop k l ++ z = take-all (n - k) (drop k l ++ z) (omega arith) in
+    let q : n - length l + (n - (n - k)) ≡ n - length (drop k l) = simp length-drop (omega arith) in
+    let r : z ++ y ≡ replicate (n - length (drop k l)) 0 = replicate-append-replicate (n - length l) (n - (n - k)) 0 ∙ ap (λ (j : ℕ). replicate j 0) q in
+    rw (d, t, m, append-assoc, r)
 
 -- a count that shows as many as it says is no more than the places
 pub count-fits : (n c : ℕ) (bs : List ℕ) → length bs ≡ n → c ≡ length (take c bs) → c ≤ n

@@ -1,7 +1,7 @@
 -- What settling leaves between a run of moves and a handshake, from the transfer t it began with.
-use Prim.Native.Nat.{ℕ, suc, _<_, _≤_}
-use mathlib.Core.Path.{_≡_, refl, sym, ap, _∙_, subst}
-use mathlib.Core.Bool.{Bool, true, false}
+use Prim.Native.Nat.{suc, _<_, _≤_}
+use mathlib.Core.Path.{_≡_, sym, ap, _∙_, subst}
+use mathlib.Core.Bool.{true, false}
 use native.Mathlib.Omega.{arith}
 use native.Mathlib.Nat.{le-refl}
 use lib.ListN.{length}
@@ -10,15 +10,17 @@ use Rattle.rules.specs.Counter.{counterSize}
 use Rattle.rules.specs.Chips.{pathView}
 use Rattle.rules.specs.StepC.{Settling, canMove, move, canHandshake, handshake, settle, turns}
 use Rattle.rules.specs.declared.chip.Conditions.{Conditions}
-use Rattle.rules.proofs.Rest.{measure, Report, move-lowers, handshake-lowers}
+use Rattle.rules.proofs.Settling.{settle-keeps}
+use Rattle.rules.proofs.Rest.{measure, move-lowers, handshake-lowers}
 use Rattle.rules.specs.declared.chip.DataPath.{DataPath}
 use Rattle.fifos.specs.Fifos.{sentView}
+use Rattle.fifos.proofs.Paths.{counter-small, offset-small}
 use Rattle.fifos.proofs.Laws.{sent-count}
 use Rattle.settling.specs.declared.Settled.{Settled}
 use Rattle.settling.specs.Settled.{settledView, settledOf, SettledTidy, Settles, startOf, movable, movedBy}
 use Rattle.settling.proofs.Parts.{view-transfer, settled-sent, settled-view, settled-tidy}
 use Rattle.settling.proofs.Runs.{run-keeps, run-ends}
-use Rattle.settling.proofs.Underway.{Underway, reports, room-for-ack, at-end, begins, move-under, handshake-under}
+use Rattle.settling.proofs.Underway.{move-counter, move-offset, handshake-counter, handshake-offset, Underway, reports, room-for-ack, at-end, begins, move-under, handshake-under}
 
 -- the longest run leads to where no move is possible, and no turn more is left
 run-stops : (c : Conditions) (s : Settling) → canMove c ((movedBy c (movable c (s .transfer)) s) .transfer) ≡ false
@@ -89,3 +91,13 @@ settles c p s b h k =
       moves = moves-fit c (pathView p) s b;
       acks = acks-small c (pathView p) s b;
     }
+
+-- what settling leaves is in its one form again
+Ranged : Settling → Type 0
+Ranged x = (x .transfer .counter < counterSize) × (x .transfer .offset ≤ 8)
+
+pub settles-tidy : (c : Conditions) (p : DataPath) (r : Settled) → Settles p c r → SettledTidy r
+unfolding Ranged startOf
+settles-tidy c p r e =
+    let w = settle-keeps Ranged c (λ x h k. (move-counter c x (k .0), move-offset c x (k .1))) (λ x h k. (handshake-counter c x, handshake-offset c x (k .1))) turns (startOf (pathView p)) (counter-small p, offset-small p) in
+    settled-tidy (settle c turns (startOf (pathView p))) (w .0) (w .1) r (e .exact)

@@ -1,6 +1,6 @@
 -- What settling leaves, in its one form: its parts, and the value of a settling in range.
 use Prim.Native.Nat.{ℕ, _+_, _<_, _≤_}
-use mathlib.Core.Bool.{true, false, cond}
+use mathlib.Core.Bool.{false, cond}
 use mathlib.Core.Path.{_≡_, refl, sym, ap, _∙_}
 use mathlib.Core.List.{List, [], _++_, append-nil}
 use lib.ListN.{take}
@@ -11,7 +11,7 @@ use Rattle.rules.specs.StepC.{Settling, storedBy, handshake}
 use Rattle.rules.specs.declared.chip.Conditions.{Conditions}
 use Rattle.rules.specs.declared.chip.DataPath.{DataPath}
 use Rattle.fifos.specs.declared.sent.Sent.{Sent}
-use Rattle.fifos.specs.Fifos.{PathTidy, SentTidy, sentView, sentOf}
+use Rattle.fifos.specs.Fifos.{PathTidy, SentTidy, sentOf}
 use Rattle.fifos.proofs.Paths.{view-path}
 use Rattle.laws.proofs.Lists.{padded-take}
 use Rattle.settling.specs.declared.Settled.{Settled}

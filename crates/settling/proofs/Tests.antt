@@ -1,7 +1,6 @@
 -- The tests for a handshake, by its kind and direction.
-use Prim.Native.Nat.{ℕ}
 use mathlib.Core.Path.{_≡_, ap}
-use mathlib.Core.Bool.{Bool, true, false, not, _&&_, cond}
+use mathlib.Core.Bool.{Bool, not, _&&_, cond}
 use lib.Dec.{ltb}
 use lib.ListN.{length}
 use Rattle.rules.specs.State.{Transfer}

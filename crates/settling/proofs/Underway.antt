@@ -1,16 +1,16 @@
 -- What holds of every state between the turns of settling, from the transfer t it began with.
-use Prim.Native.Nat.{ℕ, _+_, _-_, _%_, _<_, _≤_}
+use Prim.Native.Nat.{ℕ, _+_, _-_, _<_, _≤_}
 use mathlib.Core.Path.{_≡_, refl, sym, ap, _∙_}
 use mathlib.Core.Bool.{Bool, true, false, cond}
-use mathlib.Core.List.{List, [], _∷_, _++_}
+use mathlib.Core.List.{List, []}
 use native.Mathlib.Omega.{arith}
 use native.Mathlib.Nat.{zero-add}
-use lib.ListN.{length, take, drop, length-append, length-take, length-drop}
+use lib.ListN.{length, length-append, length-take, length-drop}
 use Rattle.rules.specs.State.{Transfer}
 use Rattle.rules.specs.Counter.{counterSize, counted}
 use Rattle.rules.specs.StepC.{Settling, canMove, move, canHandshake, handshake, turn, settle, turns}
 use Rattle.rules.specs.declared.chip.Conditions.{Conditions}
-use Rattle.rules.proofs.Rest.{Resting, Counts, Report, acksLeft, measure-small, move-outbound, move-inbound, synchronous-offset, asynchronous-ack, turn-moves, turn-handshakes, settle-enough, settle-rests, counts-start, counts-move, counts-handshake, acks-left-small, report}
+use Rattle.rules.proofs.Rest.{Counts, Report, acksLeft, measure-small, move-inbound, synchronous-offset, asynchronous-ack, turn-moves, turn-handshakes, settle-enough, settle-rests, counts-start, counts-move, counts-handshake, acks-left-small, report}
 use Rattle.settling.specs.Settled.{startOf}
 
 module _ (c : Conditions) (s : Settling) where
@@ -24,11 +24,11 @@ module _ (c : Conditions) (s : Settling) where
           let e = move-inbound c (s .transfer) o h in
           rw o (simp (length-append, length-take) (omega arith))
 
-  move-counter : s .transfer .counter < counterSize → (move c s) .transfer .counter < counterSize
+  pub move-counter : s .transfer .counter < counterSize → (move c s) .transfer .counter < counterSize
   unfolding move
   move-counter h = h
 
-  move-offset : s .transfer .offset ≤ 8 → (move c s) .transfer .offset ≤ 8
+  pub move-offset : s .transfer .offset ≤ 8 → (move c s) .transfer .offset ≤ 8
   unfolding move
   move-offset h = h
 
@@ -36,11 +36,11 @@ module _ (c : Conditions) (s : Settling) where
   unfolding handshake
   handshake-host h = h
 
-  handshake-counter : (handshake c s) .transfer .counter < counterSize
+  pub handshake-counter : (handshake c s) .transfer .counter < counterSize
   unfolding handshake counted
   handshake-counter = omega arith
 
-  handshake-offset : s .transfer .offset ≤ 8 → (handshake c s) .transfer .offset ≤ 8
+  pub handshake-offset : s .transfer .offset ≤ 8 → (handshake c s) .transfer .offset ≤ 8
   unfolding handshake
   handshake-offset h = go (c .synchronous)
     where

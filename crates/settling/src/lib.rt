@@ -13,12 +13,12 @@ use rules::chip::Conditions;
 use rules::chip::DataPath;
 use rules::chip::ScsiFifo;
 
-// What settling leaves: the data path, the moves and ACKs it made, the bytes it sent.
+// What settling leaves: the data path, the bytes it sent, the moves and ACKs it made. The bytes of the count go last: no gap is copied.
 pub struct Settled {
     pub path: DataPath,
+    pub sent: Sent,
     pub moves: u8,
     pub acks: u8,
-    pub sent: Sent,
 }
 
 fn smaller(a: usize, b: usize) -> usize
@@ -153,7 +153,7 @@ fn byte_sent(p: DataPath) -> DataPath
     ensures { λ r. ⌜ r ≡ pathOf (passed true [] (pathView p)) ⌝ }
 {
     let scsi = p.scsi;
-    let rest = fifos::scsi::popped(scsi, 1);
+    let rest = fifos::scsi::without_oldest(scsi);
     let oldest = fifos::scsi::oldest(scsi);
     let mut n = p;
     n.scsi = rest;

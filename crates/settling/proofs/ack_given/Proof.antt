@@ -1,26 +1,20 @@
-use mathlib.Core.Path.{_≡_, refl, sym, ap, _∙_}
+use mathlib.Core.Path.{_≡_, refl, ap, _∙_}
 use Prim.Native.Nat.{ℕ, _-_}
 use mathlib.Core.Bool.{Bool, true, false, not, _||_, cond}
 use Rattle.rules.specs.Chips.{pathView}
 use Rattle.rules.specs.Counter.{counted}
 use Rattle.settling.specs.Settled.{acknowledged}
-use Rattle.fifos.proofs.Paths.{path-host, path-scsi, path-counter, path-offset, path-made}
+use Rattle.fifos.proofs.Paths.{path-host, path-scsi, path-offset, path-made}
 use borrow.Author.Needs.{needs}
 use Rattle.settling.proofs.ack_given.Statement.{statement}
 use Rattle.settling.proofs.ack_given.Tie as tie
-use Rattle.settling.proofs.ack_given.Reads as reads
-use Rattle.settling.proofs.ack_given.Lts as lts
-use Rattle.settling.proofs.lowered.Reads as lowered-reads
 
--- src/lib.rt:205:9
 lowered-requires : tie.Need-lowered-requires
 lowered-requires c κs = search needs
 
--- src/lib.rt:207:18
 add-n : tie.Need-add-n
 add-n c = search needs
 
--- src/lib.rt:201:1
 on-unless : (ack y : Bool) → (ack || not y) ≡ cond y ack true
 on-unless true true = refl
 on-unless true false = refl

@@ -1,8 +1,6 @@
-use mathlib.Core.Path.{_≡_, refl, sym, ap, _∙_}
-use Prim.Native.Nat.{_<_}
+use mathlib.Core.Path.{sym, ap, _∙_}
 use native.Mathlib.Omega.{arith}
 use Rattle.rules.specs.Chips.{pathView, pathOf}
-use Rattle.rules.specs.StepC.{storedBy}
 use Rattle.rules.proofs.Rest.{handshake-inbound}
 use Rattle.settling.specs.Settled.{passed}
 use Rattle.fifos.proofs.Paths.{scsi-held}
@@ -10,21 +8,14 @@ use Rattle.settling.proofs.Parts.{passed-none}
 use borrow.Author.Needs.{needs}
 use Rattle.settling.proofs.byte_passed.Statement.{statement}
 use Rattle.settling.proofs.byte_passed.Tie as tie
-use Rattle.settling.proofs.byte_passed.Reads as reads
-use Rattle.settling.proofs.byte_passed.Lts as lts
-use Rattle.settling.proofs.byte_sent.Reads as byte-sent-reads
-use Rattle.settling.proofs.byte_stored.Reads as byte-stored-reads
 
--- src/lib.rt:185:9
 byte-sent-requires : tie.Need-byte-sent-requires
 byte-sent-requires c κs = search needs
 
--- src/lib.rt:185:9
 returns : tie.Need-returns
 unfolding passed
 returns c = rw (c .before .if1 .taken) (c .byte-sent .ensures)
 
--- src/lib.rt:187:35
 byte-stored-requires : tie.Need-byte-stored-requires
 byte-stored-requires c κs =
     let a = c .before .before in
@@ -32,13 +23,11 @@ byte-stored-requires c κs =
     let h = handshake-inbound (a .args .c) (pathView (a .args .p)) (c .before .if1 .left) (c .if2 .left) (a .pre .1) in
     (a .pre .0, omega arith)
 
--- src/lib.rt:179:1
 returns-2 : tie.Need-returns-2
 returns-2 c =
     let a = c .before .before in
     rw (c .before .if1 .left, c .if2 .taken) (a .pre .0 ∙ ap pathOf (sym (passed-none (pathView (a .args .p)))))
 
--- src/lib.rt:179:1
 returns-3 : tie.Need-returns-3
 returns-3 c = rw (c .before .before .if1 .left, c .before .if2 .left) (c .byte-stored .ensures)
 

@@ -1,4 +1,4 @@
-use mathlib.Core.Path.{_≡_, refl, sym, ap, _∙_}
+use mathlib.Core.Path.{refl}
 use mathlib.Core.Bool.{false}
 use mathlib.Core.List.{[], _∷_}
 use Rattle.rules.specs.Chips.{pathView}
@@ -6,15 +6,10 @@ use Rattle.settling.specs.Settled.{passed}
 use Rattle.fifos.proofs.Paths.{path-host, path-scsi, path-counter, path-offset, path-made}
 use Rattle.settling.proofs.byte_stored.Statement.{statement}
 use Rattle.settling.proofs.byte_stored.Tie as tie
-use Rattle.settling.proofs.byte_stored.Reads as reads
-use Rattle.settling.proofs.byte_stored.Lts as lts
-use Rattle.fifos.proofs.scsi.pushed.Reads as pushed-reads
 
--- src/lib.rt:172:9
 pushed-requires : tie.Need-pushed-requires
 pushed-requires c κs = (c .before .pre .1, path-scsi (c .before .args .p) (c .before .pre .0))
 
--- src/lib.rt:166:1
 returns : tie.Need-returns
 unfolding pathView passed
 returns c =

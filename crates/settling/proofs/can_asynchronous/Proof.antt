@@ -1,14 +1,10 @@
-use mathlib.Core.Path.{_≡_, refl, sym, ap, _∙_}
 use Rattle.rules.specs.Chips.{pathView}
 use mathlib.Core.Bool.{true, false}
 use Rattle.settling.proofs.Tests.{asynchronous-by}
 use Rattle.fifos.proofs.Paths.{scsi-held}
 use Rattle.settling.proofs.can_asynchronous.Statement.{statement}
 use Rattle.settling.proofs.can_asynchronous.Tie as tie
-use Rattle.settling.proofs.can_asynchronous.Reads as reads
-use Rattle.settling.proofs.can_asynchronous.Lts as lts
 
--- src/lib.rt:127:1
 returns : tie.Need-returns
 unfolding pathView
 returns c =

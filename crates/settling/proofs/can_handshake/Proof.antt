@@ -1,24 +1,17 @@
-use mathlib.Core.Path.{_≡_, refl, sym, ap, _∙_}
+use mathlib.Core.Path.{sym, ap, _∙_}
 use mathlib.Core.Bool.{Bool, true, false, _&&_}
 use Rattle.rules.specs.Chips.{pathView}
 use Rattle.settling.proofs.Tests.{handshake-by}
 use Rattle.settling.proofs.Parts.{settled-path}
 use Rattle.settling.proofs.can_handshake.Statement.{statement}
 use Rattle.settling.proofs.can_handshake.Tie as tie
-use Rattle.settling.proofs.can_handshake.Reads as reads
-use Rattle.settling.proofs.can_handshake.Lts as lts
-use Rattle.settling.proofs.can_asynchronous.Reads as can-asynchronous-reads
-use Rattle.settling.proofs.can_synchronous.Reads as can-synchronous-reads
 
--- src/lib.rt:145:21
 can-synchronous-requires : tie.Need-can-synchronous-requires
 can-synchronous-requires c κs = settled-path (c .before .before .args .s) (c .before .before .pre)
 
--- src/lib.rt:147:21
 can-asynchronous-requires : tie.Need-can-asynchronous-requires
 can-asynchronous-requires c κs = settled-path (c .before .before .args .s) (c .before .before .pre)
 
--- src/lib.rt:139:1
 returns : tie.Need-returns
 returns c =
     let a = c .before .before .before .before in

@@ -1,4 +1,3 @@
-use mathlib.Core.Path.{_≡_, refl, sym, ap, _∙_}
 use mathlib.Core.Bool.{true, false}
 use Rattle.rules.specs.Chips.{pathView}
 use Rattle.settling.proofs.Tests.{synchronous-by}
@@ -6,14 +5,10 @@ use Rattle.fifos.proofs.Paths.{path-offset, scsi-held}
 use borrow.Author.Needs.{needs}
 use Rattle.settling.proofs.can_synchronous.Statement.{statement}
 use Rattle.settling.proofs.can_synchronous.Tie as tie
-use Rattle.settling.proofs.can_synchronous.Reads as reads
-use Rattle.settling.proofs.can_synchronous.Lts as lts
 
--- src/lib.rt:119:16
 cast-open : tie.Need-cast-open
 cast-open c = search needs
 
--- src/lib.rt:114:1
 returns : tie.Need-returns
 returns c =
     let a = c .before .before in

@@ -11,12 +11,7 @@ use Rattle.settling.specs.Settled.{carried}
 use borrow.Author.Needs.{needs}
 use Rattle.settling.proofs.carried_in.Statement.{statement}
 use Rattle.settling.proofs.carried_in.Tie as tie
-use Rattle.settling.proofs.carried_in.Reads as reads
-use Rattle.settling.proofs.carried_in.Lts as lts
-use Rattle.fifos.proofs.host.joined.Reads as joined-reads
-use Rattle.fifos.proofs.scsi.popped.Reads as popped-reads
 
--- src/lib.rt:75:9
 joined-requires : tie.Need-joined-requires
 joined-requires c κs =
     let a = c .before .before .before in
@@ -24,11 +19,9 @@ joined-requires c κs =
     let n : p .scsi .count ≤ 8 = scsi-within p (a .pre .0) (search needs) in
     (omega arith, (a .pre .1 .1, path-host p (a .pre .0)))
 
--- src/lib.rt:76:9
 popped-requires : tie.Need-popped-requires
 popped-requires c κs = search needs
 
--- src/lib.rt:66:1
 returns : tie.Need-returns
 unfolding pathView carried
 returns c =

@@ -4,27 +4,20 @@ use mathlib.Core.List.{_++_}
 use lib.ListN.{take}
 use lib.Seq.{take-take}
 use Rattle.rules.specs.Chips.{scsiView, scsiOf, pathView}
-use Rattle.fifos.proofs.Paths.{path-host, path-scsi, path-counter, path-offset, path-made}
+use Rattle.fifos.proofs.Paths.{path-scsi, path-counter, path-offset, path-made}
 use Rattle.settling.specs.Settled.{carried}
 use borrow.Author.Needs.{needs}
 use Rattle.settling.proofs.carried_out.Statement.{statement}
 use Rattle.settling.proofs.carried_out.Tie as tie
-use Rattle.settling.proofs.carried_out.Reads as reads
-use Rattle.settling.proofs.carried_out.Lts as lts
-use Rattle.fifos.proofs.host.popped.Reads as popped-reads
-use Rattle.fifos.proofs.scsi.joined.Reads as joined-reads
 
--- src/lib.rt:57:9
 joined-requires : tie.Need-joined-requires
 joined-requires c κs =
     let a = c .before .before .before in
     (a .pre .1 .1, path-scsi (a .args .p) (a .pre .0))
 
--- src/lib.rt:58:9
 popped-requires : tie.Need-popped-requires
 popped-requires c κs = search needs
 
--- src/lib.rt:48:1
 returns : tie.Need-returns
 unfolding pathView carried
 returns c =

@@ -1,19 +1,12 @@
 use borrow.Author.Needs.{needs}
-use mathlib.Core.Path.{_≡_, refl, sym, ap, _∙_}
-use Prim.Native.Nat.{_+_, _≤_}
+use Prim.Native.Nat.{_≤_}
 use native.Mathlib.Omega.{arith}
-use lib.ListN.{length}
 use Rattle.rules.specs.Chips.{pathView}
 use Rattle.fifos.proofs.Paths.{host-held, scsi-held, host-within, scsi-within}
 use Rattle.settling.proofs.Runs.{run-out, run-in}
 use Rattle.settling.proofs.carried_run.Statement.{statement}
 use Rattle.settling.proofs.carried_run.Tie as tie
-use Rattle.settling.proofs.carried_run.Reads as reads
-use Rattle.settling.proofs.carried_run.Lts as lts
-use Rattle.settling.proofs.carried_in.Reads as carried-in-reads
-use Rattle.settling.proofs.carried_out.Reads as carried-out-reads
 
--- src/lib.rt:90:9
 carried-out-requires : tie.Need-carried-out-requires
 carried-out-requires c κs =
     let a = c .before in
@@ -24,7 +17,6 @@ carried-out-requires c κs =
     let r = run-out (a .args .c) (pathView p) (a .args .k) (a .pre .1) (omega arith) (c .if1 .taken) in
     (a .pre .0, (omega arith, omega arith))
 
--- src/lib.rt:92:9
 carried-in-requires : tie.Need-carried-in-requires
 carried-in-requires c κs =
     let a = c .before in
@@ -36,11 +28,9 @@ carried-in-requires c κs =
     let r = run-in (a .args .c) (pathView p) (a .args .k) (a .pre .1) (omega arith) (c .if1 .left) (omega arith) in
     (a .pre .0, (omega arith, omega arith))
 
--- src/lib.rt:84:1
 returns : tie.Need-returns
 returns c = rw (c .before .if1 .taken) (c .carried-out .ensures)
 
--- src/lib.rt:84:1
 returns-2 : tie.Need-returns-2
 returns-2 c = rw (c .before .if1 .left) (c .carried-in .ensures)
 

@@ -10,16 +10,10 @@ use Rattle.settling.proofs.Parts.{settled-path, settled-sent, settled-m
 use Rattle.settling.proofs.Runs.{run-none, run-small}
 use Rattle.settling.proofs.moved.Statement.{statement}
 use Rattle.settling.proofs.moved.Tie as tie
-use Rattle.settling.proofs.moved.Reads as reads
-use Rattle.settling.proofs.moved.Lts as lts
-use Rattle.settling.proofs.carried_run.Reads as carried-run-reads
-use Rattle.settling.proofs.run_length.Reads as run-length-reads
 
--- src/lib.rt:103:9
 run-length-requires : tie.Need-run-length-requires
 run-length-requires c κs = settled-path (c .before .args .s) (c .before .pre .0)
 
--- src/lib.rt:105:9
 returns : tie.Need-returns
 returns c =
     let a = c .before .before .before in
@@ -27,13 +21,11 @@ returns c =
     a .pre .0
     ∙ ap settledOf (sym (run-none (a .args .c) (settledView (a .args .s))) ∙ ap (λ (k : ℕ). movedBy (a .args .c) k (settledView (a .args .s))) n)
 
--- src/lib.rt:107:9
 carried-run-requires : tie.Need-carried-run-requires
 carried-run-requires c κs =
     let a = c .before .before .before in
     (settled-path (a .args .s) (a .pre .0), omega (arith, c .before .run-length .ensures))
 
--- src/lib.rt:110:26
 eight : (c : tie.Start) → length (c .args .s .path .scsi .bytes) ≡ 8
 eight c = search needs
 
@@ -50,11 +42,9 @@ small c =
 cast-n : tie.Need-cast-n
 cast-n c = omega (arith, small c)
 
--- src/lib.rt:110:15
 add-n : tie.Need-add-n
 add-n c = omega (arith, small (c .before))
 
--- src/lib.rt:97:1
 returns-2 : tie.Need-returns-2
 unfolding movedBy settledView
 returns-2 c =

@@ -1,35 +1,27 @@
-use mathlib.Core.Path.{_≡_, refl, sym, ap, _∙_}
+use mathlib.Core.Path.{_≡_}
 use Prim.Native.Nat.{_-_, min}
 use Rattle.settling.specs.Settled.{movable}
 use Rattle.fifos.proofs.Paths.{host-held, scsi-held, host-within, scsi-within}
 use borrow.Author.Needs.{needs}
 use Rattle.settling.proofs.run_length.Statement.{statement}
 use Rattle.settling.proofs.run_length.Tie as tie
-use Rattle.settling.proofs.run_length.Reads as reads
-use Rattle.settling.proofs.run_length.Lts as lts
-use Rattle.settling.proofs.smaller.Reads as smaller-reads
 
--- src/lib.rt:38:35
 sub-smaller : tie.Need-sub-smaller
 sub-smaller c =
     let a = c .before .before .before in
     scsi-within (a .args .p) (a .pre) (search needs)
 
--- src/lib.rt:38:13
 smaller-requires : tie.Need-smaller-requires
 smaller-requires c κs = search needs
 
--- src/lib.rt:40:35
 sub-smaller-2 : tie.Need-sub-smaller-2
 sub-smaller-2 c =
     let a = c .before .before .before in
     host-within (a .args .p) (a .pre) (search needs)
 
--- src/lib.rt:40:13
 smaller-requires-2 : tie.Need-smaller-requires-2
 smaller-requires-2 c κs = search needs
 
--- src/lib.rt:32:1
 returns : tie.Need-returns
 unfolding movable
 returns c =
@@ -39,7 +31,6 @@ returns c =
     let e : c .smaller .result ≡ min (a .args .p .host .count) (8 - a .args .p .scsi .count) = c .smaller .ensures in
     rw (c .before .before .before .if1 .taken, c .before .before .if2 .taken) (cc)
 
--- src/lib.rt:32:1
 returns-2 : tie.Need-returns-2
 unfolding movable
 returns-2 c =
@@ -49,7 +40,6 @@ returns-2 c =
     let e : c .smaller2 .result ≡ min (a .args .p .scsi .count) (128 - a .args .p .host .count) = c .smaller2 .ensures in
     rw (c .before .before .before .if1 .taken, c .before .before .if2 .left) (cc)
 
--- src/lib.rt:32:1
 returns-3 : tie.Need-returns-3
 unfolding movable
 returns-3 c = rw (c .if1 .left)

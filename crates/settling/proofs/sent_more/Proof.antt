@@ -1,27 +1,19 @@
-use mathlib.Core.Path.{_≡_, refl, sym, ap, _∙_}
+use mathlib.Core.Path.{sym, ap, _∙_}
 use mathlib.Core.List.{List, [], _∷_, _++_}
 use Prim.Native.Nat.{ℕ}
-use lib.ListN.{take, getD}
 use Rattle.rules.specs.Chips.{scsiView}
 use Rattle.fifos.specs.Fifos.{sentView, sentOf}
 use Rattle.laws.proofs.Lists.{take-one}
 use borrow.Author.Needs.{needs}
 use Rattle.settling.proofs.sent_more.Statement.{statement}
 use Rattle.settling.proofs.sent_more.Tie as tie
-use Rattle.settling.proofs.sent_more.Reads as reads
-use Rattle.settling.proofs.sent_more.Lts as lts
-use Rattle.fifos.proofs.scsi.oldest.Reads as oldest-reads
-use Rattle.fifos.proofs.sent.one_more.Reads as one-more-reads
 
--- src/lib.rt:221:13
 oldest-requires : tie.Need-oldest-requires
 oldest-requires c κs = search needs
 
--- src/lib.rt:222:9
 one-more-requires : tie.Need-one-more-requires
 one-more-requires c κs = search needs
 
--- src/lib.rt:222:9
 returns : tie.Need-returns
 returns c =
     let a = c .before .before .before in
@@ -31,7 +23,6 @@ returns c =
     ∙ ap (λ (b : ℕ). sentOf (sentView (a .args .t) ++ (b ∷ []))) (c .before .oldest .ensures)
     ∙ ap (λ (l : List ℕ). sentOf (sentView (a .args .t) ++ l)) (sym (take-one (scsiView (a .args .scsi)) (a .pre .1 .1 o))))
 
--- src/lib.rt:214:1
 returns-2 : tie.Need-returns-2
 returns-2 c = rw (c .if1 .left) (c .before .pre .0)
 

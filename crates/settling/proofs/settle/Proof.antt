@@ -12,12 +12,6 @@ use Rattle.fifos.proofs.Paths.{host-held, scsi-held, host-within, scsi-within, 
 use Rattle.settling.proofs.Between.{Between, started-between, moved-between, shaken-between, moves-fit, acks-fit, settles}
 use Rattle.settling.proofs.settle.Statement.{statement}
 use Rattle.settling.proofs.settle.Tie as tie
-use Rattle.settling.proofs.settle.Reads as reads
-use Rattle.settling.proofs.settle.Lts as lts
-use Rattle.settling.proofs.can_handshake.Reads as can-handshake-reads
-use Rattle.settling.proofs.moved.Reads as moved-reads
-use Rattle.settling.proofs.shaken.Reads as shaken-reads
-use Rattle.settling.proofs.started.Reads as started-reads
 
 -- no move is possible, and what was between turns at the loop's start is so still
 abbrev Inv-loop : tie.InvT-loop

@@ -1,4 +1,4 @@
-use mathlib.Core.Path.{_≡_, refl, sym, ap, _∙_}
+use mathlib.Core.Path.{_≡_, refl, ap, _∙_}
 use Prim.Native.Nat.{_<_}
 use mathlib.Core.Bool.{true}
 use native.Mathlib.Omega.{arith}
@@ -9,20 +9,14 @@ use Rattle.rules.specs.declared.chip.DataPath.{DataPath}
 use Rattle.fifos.specs.Fifos.{PathTidy}
 use Rattle.settling.specs.declared.Settled.{Settled}
 use Rattle.rules.specs.Chips.{scsiView, pathView, pathOf}
-use Rattle.rules.specs.StepC.{canHandshake, handshake, storedBy}
+use Rattle.rules.specs.StepC.{canHandshake, storedBy}
 use Rattle.rules.proofs.Rest.{handshake-outbound}
 use Rattle.fifos.proofs.Paths.{path-view, path-tidy, counter-small, offset-small}
 use Rattle.settling.specs.Settled.{settledView, settledOf, passed, acknowledged}
 use Rattle.settling.proofs.Parts.{settled-path, settled-sent, settled-made, shake-parts}
 use Rattle.settling.proofs.shaken.Statement.{statement}
 use Rattle.settling.proofs.shaken.Tie as tie
-use Rattle.settling.proofs.shaken.Reads as reads
-use Rattle.settling.proofs.shaken.Lts as lts
-use Rattle.settling.proofs.ack_given.Reads as ack-given-reads
-use Rattle.settling.proofs.byte_passed.Reads as byte-passed-reads
-use Rattle.settling.proofs.sent_more.Reads as sent-more-reads
 
--- src/lib.rt:238:9
 -- a byte is there where one goes out
 sends : (s : Settled) (c : Conditions) → canHandshake c (pathView (s .path)) ≡ true → c .outbound ≡ true → 0 < length (scsiView (s .path .scsi))
 unfolding pathView
@@ -35,13 +29,11 @@ sent-more-requires c κs =
       (omega arith, sends (a .args .s) (a .args .c) (a .pre .1 .0)),
     )
 
--- src/lib.rt:239:9
 byte-passed-requires : tie.Need-byte-passed-requires
 byte-passed-requires c κs =
     let a = c .before .before .before .before in
     (settled-path (a .args .s) (a .pre .0), a .pre .1 .0)
 
--- src/lib.rt:240:9
 -- after its byte a path is in its one form
 passed-tidy : (c : Conditions) (p q : DataPath) → q ≡ pathOf (passed (c .outbound) (storedBy c) (pathView p)) → PathTidy q × (pathView q ≡ passed (c .outbound) (storedBy c) (pathView p))
 unfolding passed
@@ -54,11 +46,9 @@ ack-given-requires c κs =
     let a = c .before .before .before .before .before in
     passed-tidy (a .args .c) (a .args .s .path) (c .byte-passed .result) (c .byte-passed .ensures) .0
 
--- src/lib.rt:243:14
 add-n : tie.Need-add-n
 add-n c = omega (arith, c .before .before .before .before .before .before .before .pre .1 .1 .0)
 
--- src/lib.rt:228:1
 returns : tie.Need-returns
 unfolding settledView settledOf pathView
 returns c =

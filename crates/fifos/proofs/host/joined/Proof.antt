@@ -6,7 +6,7 @@ use native.Mathlib.Omega.{arith}
 use lib.ListN.{length, take, length-append}
 use lib.Seq.{length-take-le}
 use Rattle.rules.specs.Numbers.{padded}
-use Rattle.rules.specs.Chips.{hostView, hostOf}
+use Rattle.rules.specs.Chips.{hostView}
 use Rattle.fifos.specs.Fifos.{HostTidy}
 use Rattle.laws.proofs.Lists.{join-copy}
 use Rattle.fifos.proofs.Laws.{host-count, host-bytes}

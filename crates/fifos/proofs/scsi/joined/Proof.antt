@@ -6,7 +6,7 @@ use native.Mathlib.Omega.{arith}
 use lib.ListN.{length, take, length-append}
 use lib.Seq.{length-take-le}
 use Rattle.rules.specs.Numbers.{padded}
-use Rattle.rules.specs.Chips.{scsiView, scsiOf}
+use Rattle.rules.specs.Chips.{scsiView}
 use Rattle.fifos.specs.Fifos.{ScsiTidy}
 use Rattle.laws.proofs.Lists.{join-copy}
 use Rattle.fifos.proofs.Laws.{scsi-count, scsi-bytes}
