@@ -1,6 +1,6 @@
 -- Bytes in places: laws of padded lists and of their parts, over the number of places.
-use Prim.Native.Nat.{ℕ, suc, _+_, _-_, _<_, _≤_, min}
-use mathlib.Core.Path.{_≡_, ap, sym, _∙_}
+use Prim.Native.Nat.{ℕ, zero, suc, _+_, _-_, _<_, _≤_, min}
+use mathlib.Core.Path.{_≡_, refl, ap, sym, _∙_}
 use mathlib.Core.List.{List, [], _∷_, _++_, append-assoc}
 use native.Mathlib.Omega.{arith}
 use native.Mathlib.Numerals.{add-one}
