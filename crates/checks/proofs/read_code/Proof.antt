@@ -1,0 +1,21 @@
+use borrow.Author.Needs.{needs}
+use Rattle.checks.proofs.Accesses.{read}
+use Rattle.checks.proofs.read_code.Statement.{statement}
+use Rattle.checks.proofs.read_code.Tie as tie
+
+returns : tie.Need-returns
+returns c =
+    let s = c .before .before .before .before in
+    let a = s .args in
+    rw (c .first-of .ensures, c .before .shut-to .ensures, c .before .before .is-missing .ensures, c .before .before .before .register-at .ensures)
+    (read (a .d) (a .held) (s .pre) (a .offset))
+
+pub read-code-spec : {M : Type 1} → statement M
+read-code-spec =
+    tie.close
+    (tie.spec
+    (λ c κs. search needs)
+    (λ c κs. search needs)
+    (λ c κs. search needs)
+    (λ c κs. search needs)
+    returns)
