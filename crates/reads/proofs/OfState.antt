@@ -1,10 +1,9 @@
 -- What the code makes of a tidy chip's parts is what the rules say of the state that it stands for.
-use Prim.Native.Nat.{ℕ, _+_, _*_, _%_, _<_, _≤_}
+use Prim.Native.Nat.{ℕ, _%_, _<_, _≤_}
 use mathlib.Core.Path.{_≡_, refl, ap, ap₂, _∙_}
-use mathlib.Core.Bool.{Bool}
 use native.Mathlib.Omega.{arith}
-use lib.ListN.{length, getD}
-use Rattle.rules.specs.Chips.{hostView, pathView, registersView, stackView, view}
+use lib.ListN.{getD}
+use Rattle.rules.specs.Chips.{pathView, registersView, stackView, view}
 use Rattle.rules.specs.Ranges.{Tidy}
 use Rattle.rules.specs.Seen.{ackDriven, ackSeen, driving, dataDriven, parityDriven, dataSeen}
 use Rattle.rules.specs.Counter.{counterByte}
