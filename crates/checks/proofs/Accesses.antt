@@ -11,9 +11,7 @@ use Rattle.rules.specs.Map.{readAt, writtenAt, isMissing}
 use Rattle.rules.specs.Events.{writes, valueOf, offered, asked, wide, portWrite, portRead}
 use Rattle.rules.specs.Codes.{absent, testValue}
 use Rattle.rules.specs.declared.registers.Dmacntrl0.{Dmacntrl0}
-use Rattle.rules.specs.declared.codes.Code.{Code}
 use Rattle.rules.specs.declared.codes.Code.the-variants.{Done}
-use Rattle.rules.specs.declared.records.Event.{Event}
 use Rattle.rules.specs.declared.records.Event.the-variants.{PowerReset, Write, Read, WordWrite, WordRead, Drive, Ticks}
 use Rattle.rules.specs.declared.records.Lines.{Lines}
 use Rattle.checks.specs.CodeBy.{shutTo, firstOf, codeBy}

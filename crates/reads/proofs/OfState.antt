@@ -1,10 +1,9 @@
 -- What the code makes of a tidy chip's parts is what the rules say of the state that it stands for.
-use Prim.Native.Nat.{ℕ, _+_, _*_, _%_, _<_, _≤_}
+use Prim.Native.Nat.{ℕ, _%_, _<_, _≤_}
 use mathlib.Core.Path.{_≡_, refl, ap, ap₂, _∙_}
-use mathlib.Core.Bool.{Bool}
 use native.Mathlib.Omega.{arith}
-use lib.ListN.{length, getD}
-use Rattle.rules.specs.Chips.{hostView, pathView, registersView, stackView, view}
+use lib.ListN.{getD}
+use Rattle.rules.specs.Chips.{pathView, registersView, stackView, view}
 use Rattle.rules.specs.Ranges.{Tidy}
 use Rattle.rules.specs.Seen.{ackDriven, ackSeen, driving, dataDriven, parityDriven, dataSeen}
 use Rattle.rules.specs.Counter.{counterByte}
@@ -29,9 +28,9 @@ module _ (c : Chip) (t : Tidy c) where
   unfolding phasemis view
   phasemis-read = ap (λ (r : Registers). phasemisOf r (c .lines) (c .status .reqinit)) (tidy-registers c t)
 
-  pub instat-read : instatOf (c .registers) (c .latches) (phasemisOf (c .registers) (c .lines) (c .status .reqinit)) ≡ instat (view c)
+  pub instat-read : instatOf (c .registers) (c .lines) (c .latches) (c .status .reqinit) ≡ instat (view c)
   unfolding instat phasemis view
-  instat-read = ap (λ (r : Registers). instatOf r (c .latches) (phasemisOf r (c .lines) (c .status .reqinit))) (tidy-registers c t)
+  instat-read = ap (λ (r : Registers). instatOf r (c .lines) (c .latches) (c .status .reqinit)) (tidy-registers c t)
 
   pub irq-read : irqOf (c .registers) (c .lines) (c .latches) (c .status .reqinit) ≡ irq (view c)
   unfolding irq instat phasemis view
@@ -55,9 +54,9 @@ module _ (c : Chip) (t : Tidy c) where
   unfolding sstat0 view
   sstat0-read = refl
 
-  pub sstat1-read : sstat1Of (c .status) (phasemisOf (c .registers) (c .lines) (c .status .reqinit)) ≡ sstat1 (view c)
-  unfolding sstat1 view
-  sstat1-read = ap (λ (b : Bool). sstat1Of (c .status) b) phasemis-read
+  pub sstat1-read : sstat1Of (c .registers) (c .lines) (c .status) ≡ sstat1 (view c)
+  unfolding sstat1 phasemis view
+  sstat1-read = ap (λ (r : Registers). sstat1Of r (c .lines) (c .status)) (tidy-registers c t)
 
   pub sstat2-read : sstat2Of (c .path .offset) (c .path .scsi .count) ≡ sstat2 (view c)
   unfolding sstat2
@@ -70,9 +69,9 @@ module _ (c : Chip) (t : Tidy c) where
   unfolding sstat4 view
   sstat4-read = refl
 
-  pub dmastat-read : dmastatOf (c .registers .dmacntrl0 .write) (instatOf (c .registers) (c .latches) (phasemisOf (c .registers) (c .lines) (c .status .reqinit))) (c .path .host .count) ≡ dmastat (view c)
-  unfolding dmastat view registersView
-  dmastat-read = ap₂ (dmastatOf (c .registers .dmacntrl0 .write)) instat-read (tidy-host c t)
+  pub dmastat-read : dmastatOf (c .registers) (c .lines) (c .latches) (c .status .reqinit) (c .path .host .count) ≡ dmastat (view c)
+  unfolding dmastat instat phasemis view
+  dmastat-read = ap₂ (λ (r : Registers) (n : ℕ). dmastatOf r (c .lines) (c .latches) (c .status .reqinit) n) (tidy-registers c t) (tidy-host c t)
 
   -- the rest
   pub counter-read : (k : ℕ) → counterByte k (c .path .counter) ≡ counterByte k (view c .transfer .counter)

@@ -14,11 +14,11 @@ use Rattle.registers.specs.Acking.{acking}
 abbrev pub phasemisOf : Registers → Lines → Bool → Bool
 phasemisOf r l reqinit = mismatched r l && reqinit
 
-abbrev pub instatOf : Registers → Latches → Bool → Bool
-instatOf r k phasemis = anyLatch k || (phasemis && r .simode1 .enphasemis) || r .dmacntrl0 .swint
+abbrev pub instatOf : Registers → Lines → Latches → Bool → Bool
+instatOf r l k reqinit = anyLatch k || (phasemisOf r l reqinit && r .simode1 .enphasemis) || r .dmacntrl0 .swint
 
 abbrev pub irqOf : Registers → Lines → Latches → Bool → Bool
-irqOf r l k reqinit = instatOf r k (phasemisOf r l reqinit) && r .dmacntrl0 .inten
+irqOf r l k reqinit = instatOf r l k reqinit && r .dmacntrl0 .inten
 
 -- 343h
 abbrev pub scsisigiOf : Registers → Lines → Bool → ℕ
@@ -31,9 +31,9 @@ abbrev pub sstat0Of : Status → ℕ
 sstat0Of t = byteOf false false false false false false (t .spiordy) false
 
 -- 34Ch
-abbrev pub sstat1Of : Status → Bool → ℕ
-sstat1Of t phasemis =
-    byteOf false false (t .scsirsti) phasemis (t .busfree) (t .scsiperr) (t .phasechg) (t .reqinit)
+abbrev pub sstat1Of : Registers → Lines → Status → ℕ
+sstat1Of r l t =
+    byteOf false false (t .scsirsti) (phasemisOf r l (t .reqinit)) (t .busfree) (t .scsiperr) (t .phasechg) (t .reqinit)
 
 -- 34Dh
 abbrev pub sstat2Of : ℕ → ℕ → ℕ
@@ -45,9 +45,10 @@ abbrev pub sstat4Of : Status → ℕ
 sstat4Of t = byteOf false false false false false (t .syncerr) (t .fwerr) false
 
 -- 354h
-abbrev pub dmastatOf : Bool → Bool → ℕ → ℕ
-dmastatOf write instat count =
-    byteOf false (not write && leb 2 count) instat (eqb count 128) (eqb count 0) (leb 64 count) false false
+abbrev pub dmastatOf : Registers → Lines → Latches → Bool → ℕ → ℕ
+dmastatOf r l k reqinit count =
+    byteOf false (not (r .dmacntrl0 .write) && leb 2 count) (instatOf r l k reqinit) (eqb count 128) (eqb count 0)
+    (leb 64 count) false false
 
 -- the control lines driven
 abbrev pub controlOf : Registers → Bool → ℕ

@@ -24,17 +24,17 @@ fn any_latch(k: Latches) -> bool
 }
 
 // "INSTAT is any latch, enabled PHASEMIS, or SWINT."
-pub fn instat_of(r: Registers, k: Latches, phasemis: bool) -> bool
-    ensures { λ b. ⌜ b ≡ instatOf r k phasemis ⌝ }
+pub fn instat_of(r: Registers, l: Lines, k: Latches, reqinit: bool) -> bool
+    ensures { λ b. ⌜ b ≡ instatOf r l k reqinit ⌝ }
 {
-    any_latch(k) | (phasemis & r.simode1.enphasemis) | r.dmacntrl0.swint
+    any_latch(k) | (phasemis_of(r, l, reqinit) & r.simode1.enphasemis) | r.dmacntrl0.swint
 }
 
 // "IRQ is INSTAT and INTEN."
 pub fn irq_of(r: Registers, l: Lines, k: Latches, reqinit: bool) -> bool
     ensures { λ b. ⌜ b ≡ irqOf r l k reqinit ⌝ }
 {
-    instat_of(r, k, phasemis_of(r, l, reqinit)) & r.dmacntrl0.inten
+    instat_of(r, l, k, reqinit) & r.dmacntrl0.inten
 }
 
 pub fn phasemis(c: Chip) -> bool
@@ -48,11 +48,7 @@ pub fn instat(c: Chip) -> bool
     requires { ⌜ Tidy c ⌝ }
     ensures { λ b. ⌜ b ≡ instat (view c) ⌝ }
 {
-    instat_of(
-        c.registers,
-        c.latches,
-        phasemis_of(c.registers, c.lines, c.status.reqinit),
-    )
+    instat_of(c.registers, c.lines, c.latches, c.status.reqinit)
 }
 
 pub fn irq(c: Chip) -> bool

@@ -4,12 +4,15 @@ ghost use Prim.Native.Nat.{_<_};
 ghost use lib.ListN.{getD};
 ghost use Rattle.rules.specs.Reads.{idBytes};
 ghost use Rattle.reads.specs.Parts.{scsisigiOf, sstat0Of, sstat1Of, sstat2Of, sstat4Of, dmastatOf, controlOf};
+use crate::interrupts::instat_of;
+use crate::interrupts::phasemis_of;
 use laws::byte_of;
 use registers::bus::ack_driven;
 use registers::bus::ack_seen;
 use registers::bus::atn_seen;
 use registers::bus::bsy_seen;
 use registers::bus::sel_seen;
+use rules::chip::Latches;
 use rules::chip::Status;
 use rules::records::Lines;
 use rules::registers::Registers;
@@ -49,9 +52,10 @@ pub fn sstat0(t: Status) -> u8
 }
 
 // 34Ch
-pub fn sstat1(t: Status, phasemis: bool) -> u8
-    ensures { λ b. ⌜ b ≡ sstat1Of t phasemis ⌝ }
+pub fn sstat1(r: Registers, l: Lines, t: Status) -> u8
+    ensures { λ b. ⌜ b ≡ sstat1Of r l t ⌝ }
 {
+    let phasemis = phasemis_of(r, l, t.reqinit);
     byte_of(
         false,
         false,
@@ -89,12 +93,13 @@ pub fn sstat4(t: Status) -> u8
 }
 
 // 354h
-pub fn dmastat(write: bool, instat: bool, count: u8) -> u8
-    ensures { λ b. ⌜ b ≡ dmastatOf write instat count ⌝ }
+pub fn dmastat(r: Registers, l: Lines, k: Latches, reqinit: bool, count: u8) -> u8
+    ensures { λ b. ⌜ b ≡ dmastatOf r l k reqinit count ⌝ }
 {
+    let instat = instat_of(r, l, k, reqinit);
     byte_of(
         false,
-        !write & (2 <= count),
+        !r.dmacntrl0.write & (2 <= count),
         instat,
         count == 128,
         count == 0,

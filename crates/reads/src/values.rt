@@ -3,8 +3,6 @@ ghost use mathlib.Core.Path.{_≡_};
 ghost use Rattle.rules.specs.Chips.{view};
 ghost use Rattle.rules.specs.Ranges.{Tidy};
 ghost use Rattle.rules.specs.Reads.{readOf, readMapped, valueRead};
-use crate::interrupts::instat_of;
-use crate::interrupts::phasemis_of;
 use crate::status::dmastat;
 use crate::status::id_byte;
 use crate::status::scsisigi;
@@ -54,10 +52,7 @@ pub fn read_register(c: Chip, register: Register) -> u8
         Register::STCNT2 => counter_byte(2, c.path.counter),
         Register::SSTAT0 => sstat0(c.status),
         Register::CLRSINT0 => 0,
-        Register::SSTAT1 => sstat1(
-            c.status,
-            phasemis_of(c.registers, c.lines, c.status.reqinit),
-        ),
+        Register::SSTAT1 => sstat1(c.registers, c.lines, c.status),
         Register::CLRSINT1 => 0,
         Register::SSTAT2 => sstat2(c.path.offset, queued),
         Register::SSTAT3 => sstat3(c.path.offset, queued),
@@ -68,14 +63,7 @@ pub fn read_register(c: Chip, register: Register) -> u8
         Register::SIMODE1 => simode1_byte(c.registers.simode1),
         Register::DMACNTRL0 => dmacntrl0_byte(c.registers.dmacntrl0),
         Register::DMACNTRL1 => dmacntrl1_byte(c.registers.dmacntrl1, c.stack.pointer),
-        Register::DMASTAT => {
-            let phasemis = phasemis_of(c.registers, c.lines, c.status.reqinit);
-            dmastat(
-                c.registers.dmacntrl0.write,
-                instat_of(c.registers, c.latches, phasemis),
-                held,
-            )
-        }
+        Register::DMASTAT => dmastat(c.registers, c.lines, c.latches, c.status.reqinit, held),
         Register::FIFOSTAT => held,
         Register::DMADATA => oldest(c.path.host),
         Register::BRSTCNTRL => c.registers.brstcntrl,

@@ -2,10 +2,10 @@
 use mathlib.Core.Path.{_∙_}
 use borrow.Author.Needs.{needs}
 use native.Mathlib.Omega.{arith}
-use Rattle.rules.specs.Chips.{pathView, registersView, stackView, view}
-use Rattle.rules.specs.Reads.{sstat0, sstat4, readOf}
+use Rattle.rules.specs.Chips.{pathView, registersView, view}
+use Rattle.rules.specs.Reads.{readOf}
 use Rattle.laws.proofs.Chips.{tidy-host}
-use Rattle.reads.proofs.OfState.{scsisigi-read, data-read, sstat1-read, sstat2-read, sstat3-read, dmastat-read, counter-read, stack-read, id-read, host-held, scsi-held, identity-place}
+use Rattle.reads.proofs.OfState.{scsisigi-read, data-read, sstat0-read, sstat1-read, sstat2-read, sstat3-read, sstat4-read, dmastat-read, counter-read, pointer-read, stack-read, id-read, host-held, scsi-held, identity-place}
 use Rattle.reads.proofs.values.read_register.Statement.{statement}
 use Rattle.reads.proofs.values.read_register.Tie as tie
 
@@ -22,7 +22,7 @@ id-place : tie.Need-id-byte-requires
 id-place c κs = identity-place (c .before .before .before .before .before .args .c) (c .before .before .before .before .before .pre)
 
 pub read-register-spec : {M : Type 1} → statement M
-unfolding readOf view registersView stackView pathView sstat0 sstat4
+unfolding readOf view registersView pathView
 read-register-spec =
     tie.close
     (tie.spec
@@ -55,7 +55,6 @@ read-register-spec =
     (λ c. search needs)
     (λ c. search needs)
     (λ c κs. search needs)
-    (λ c κs. search needs)
     (λ c. search needs)
     (λ c. search needs)
     (λ c κs. search needs)
@@ -74,8 +73,6 @@ read-register-spec =
     (λ c. search needs)
     (λ c κs. search needs)
     (λ c. search needs)
-    (λ c κs. search needs)
-    (λ c κs. search needs)
     (λ c κs. search needs)
     (λ c. search needs)
     (λ c. search needs)
@@ -101,20 +98,20 @@ read-register-spec =
     (λ c. rw (c .before .enum-told11 .given .1) (c .counter-byte .ensures ∙ counter-read (c .before .before .before .before .before .args .c) (c .before .before .before .before .before .pre) 0))
     (λ c. rw (c .before .enum-told12 .given .1) (c .counter-byte2 .ensures ∙ counter-read (c .before .before .before .before .before .args .c) (c .before .before .before .before .before .pre) 1))
     (λ c. rw (c .before .enum-told13 .given .1) (c .counter-byte3 .ensures ∙ counter-read (c .before .before .before .before .before .args .c) (c .before .before .before .before .before .pre) 2))
-    (λ c. rw (c .before .enum-told14 .given .1) (c .sstat0 .ensures))
+    (λ c. rw (c .before .enum-told14 .given .1) (c .sstat0 .ensures ∙ sstat0-read (c .before .before .before .before .before .args .c) (c .before .before .before .before .before .pre)))
     (λ c. rw (c .enum-told15 .given .1))
-    (λ c. rw (c .before .before .enum-told16 .given .1, c .sstat1 .ensures, c .before .phasemis-of .ensures) (sstat1-read (c .before .before .before .before .before .before .args .c) (c .before .before .before .before .before .before .pre)))
+    (λ c. rw (c .before .enum-told16 .given .1) (c .sstat1 .ensures ∙ sstat1-read (c .before .before .before .before .before .args .c) (c .before .before .before .before .before .pre)))
     (λ c. rw (c .enum-told17 .given .1))
     (λ c. rw (c .before .enum-told18 .given .1) (c .sstat2 .ensures ∙ sstat2-read (c .before .before .before .before .before .args .c) (c .before .before .before .before .before .pre)))
     (λ c. rw (c .before .enum-told19 .given .1) (c .sstat3 .ensures ∙ sstat3-read (c .before .before .before .before .before .args .c) (c .before .before .before .before .before .pre)))
     (λ c. rw (c .enum-told20 .given .1))
-    (λ c. rw (c .before .enum-told21 .given .1) (c .sstat4 .ensures))
+    (λ c. rw (c .before .enum-told21 .given .1) (c .sstat4 .ensures ∙ sstat4-read (c .before .before .before .before .before .args .c) (c .before .before .before .before .before .pre)))
     (λ c. rw (c .enum-told22 .given .1))
     (λ c. rw (c .before .enum-told23 .given .1) (c .simode0-byte .ensures))
     (λ c. rw (c .before .enum-told24 .given .1) (c .simode1-byte .ensures))
     (λ c. rw (c .before .enum-told25 .given .1) (c .dmacntrl0-byte .ensures))
-    (λ c. rw (c .before .enum-told26 .given .1) (c .dmacntrl1-byte .ensures))
-    (λ c. rw (c .before .before .before .enum-told27 .given .1, c .dmastat .ensures, c .before .instat-of .ensures, c .before .before .phasemis-of2 .ensures) (dmastat-read (c .before .before .before .before .before .before .before .args .c) (c .before .before .before .before .before .before .before .pre)))
+    (λ c. rw (c .before .enum-told26 .given .1) (c .dmacntrl1-byte .ensures ∙ pointer-read (c .before .before .before .before .before .args .c) (c .before .before .before .before .before .pre)))
+    (λ c. rw (c .before .enum-told27 .given .1) (c .dmastat .ensures ∙ dmastat-read (c .before .before .before .before .before .args .c) (c .before .before .before .before .before .pre)))
     (λ c. rw (c .enum-told28 .given .1) (tidy-host (c .before .before .before .before .args .c) (c .before .before .before .before .pre)))
     (λ c. rw (c .before .enum-told29 .given .1) (c .oldest .ensures))
     (λ c. rw (c .enum-told30 .given .1))
