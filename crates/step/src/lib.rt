@@ -13,6 +13,7 @@ ghost use Rattle.rules.specs.declared.codes.Code.the-variants.{Done};
 ghost use Rattle.step.specs.Outcomes.{outcomeOf, returnedOf};
 ghost use Rattle.step.specs.Runs.{IsRun};
 
+pub mod answers;
 pub mod event;
 pub mod reset;
 
