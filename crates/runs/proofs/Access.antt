@@ -1,11 +1,11 @@
 -- A step by its outcomes: refused, a power reset, or done.
-use mathlib.Core.Path.{_≡_, refl}
+use mathlib.Core.Path.{_≡_, refl, sym}
 use mathlib.Core.Bool.{Bool, true, false, _||_, cond}
 use mathlib.Core.List.{List}
 use Prim.Native.Nat.{ℕ}
 use Rattle.rules.specs.State.{State, powerReset}
 use Rattle.rules.specs.Records.{decode}
-use Rattle.rules.specs.Codes.{first, check, absent, testValue, shut, noRoom, noBytes, accessCode, refusedValue, isDone}
+use Rattle.rules.specs.Codes.{absent, testValue, shut, noRoom, noBytes, accessCode, refusedValue, isDone}
 use Rattle.rules.specs.StepB.{edgesOf}
 use Rattle.rules.specs.Answers.{Stepped}
 use Rattle.rules.specs.Step.{refused, done, access, stepEvent, stepDecoded, step}
@@ -28,10 +28,7 @@ firstOf-refuses false true c d f h = refl
 firstOf-refuses false false true d f h = refl
 firstOf-refuses false false false true f h = refl
 firstOf-refuses false false false false true h = refl
-firstOf-refuses false false false false false h = absurd (never (sym′ h))
-  where
-    sym′ : true ≡ false → false ≡ true
-    sym′ q = cc
+firstOf-refuses false false false false false h = absurd (never (sym h))
 
 refusal : (s : State) (e : Event) → isDone (accessCode s e) ≡ false → isRefusal (accessCode s e) ≡ true
 unfolding accessCode
@@ -39,7 +36,7 @@ refusal s e h = firstOf-refuses (absent e) (testValue e) (shut (s .registers) e)
 
 -- what an access that is done has passed
 pub record Passed (s : State) (e : Event) : Type 0 where
-  pub open′ : shut (s .registers) e ≡ false
+  pub unshut : shut (s .registers) e ≡ false
   pub room : noRoom s e ≡ false
   pub bytes : noBytes s e ≡ false
 
@@ -55,7 +52,7 @@ pub passed : (s : State) (e : Event) → isDone (accessCode s e) ≡ true → Pa
 unfolding accessCode
 passed s e h =
     let p = firstOf-passes (absent e) (testValue e) (shut (s .registers) e) (noRoom s e) (noBytes s e) h in
-    record { open′ = p .0; room = p .1; bytes = p .2 }
+    record { unshut = p .0; room = p .1; bytes = p .2 }
 
 -- a step that is done is no refusal
 pub done-code : (s : State) (e : Event) → isRefusal ((done s e) .code) ≡ false

@@ -1,7 +1,7 @@
 -- The ACKs of a run: the counter is their number, each sends one byte outbound, and the chip drives no other ACK.
-use mathlib.Core.Path.{_≡_, refl, sym, _∙_, ap}
-use mathlib.Core.Bool.{Bool, true, false, _&&_, _||_, and-false, or-false}
-use mathlib.Core.List.{List, [], _∷_, _++_}
+use mathlib.Core.Path.{_≡_, refl, _∙_, ap}
+use mathlib.Core.Bool.{Bool, true, and-false, or-false}
+use mathlib.Core.List.{List, [], _∷_}
 use Prim.Native.Nat.{ℕ, _+_, _%_}
 use native.Mathlib.Nat.{add-zero, zero-add}
 use native.Mathlib.Omega.{arith}
@@ -18,13 +18,12 @@ use Rattle.rules.specs.declared.registers.Registers.{Registers}
 use Rattle.rules.specs.declared.codes.Code.{Code}
 use Rattle.rules.specs.declared.records.Event.{Event}
 use Rattle.rules.specs.declared.records.Decoded.{Decoded}
-use Rattle.rules.specs.declared.records.Decoded.the-variants.{Well}
 use Rattle.rules.proofs.Logic.{left-true, right-true}
 use Rattle.runs.specs.Comes.{isRefusal, mayCome, allCome, along, acksAlong}
 use Rattle.runs.specs.Run.{Starts, runAllows, sentBy}
 use Rattle.runs.proofs.Access.{come-law}
 use Rattle.runs.proofs.Settles.{counted-settles, paired-settles}
-use Rattle.runs.proofs.Spared.{Spared, spared}
+use Rattle.runs.proofs.Spared.{spared}
 use Rattle.runs.proofs.Stages.{Held, held-at-start, held-after, counter-before}
 
 -- after a step, from k ACKs before
@@ -63,18 +62,33 @@ run-counts-acks w s records h q =
     acks-from w s records (held-at-start w s h) 0 (h .counter) q ∙ ap (λ (m : ℕ). m % 16777216) (zero-add (acksAlong s records))
 
 -- outbound each of them sends one byte
+pub record PairStep (r : Stepped) : Type 0 where
+  pub held : Held true (r .state .registers)
+  pub pair : r .acks ≡ length (r .sent)
+
 module _ (s : State) (h : Held true (s .registers)) where
-  pair-refused : (d : Decoded) (code : Code) (value : ℕ) → isRefusal code ≡ true → (refused s code value) .acks ≡ length ((refused s code value) .sent)
+  pair-refused : (d : Decoded) (code : Code) (value : ℕ) → isRefusal code ≡ true → PairStep (refused s code value)
   unfolding refused
-  pair-refused d code value q = refl
+  pair-refused d code value q = record { held = h; pair = refl }
 
-  pair-done : (e : Event) → runAllows e ≡ true → isDone (accessCode s e) ≡ true → (done s e) .acks ≡ length ((done s e) .sent)
-  unfolding done settledC started conditions
+  pair-done : (e : Event) → runAllows e ≡ true → isDone (accessCode s e) ≡ true → PairStep (done s e)
+  unfolding done afterD finished settledC started conditions
   pair-done e a q =
-      paired-settles (conditions (afterB s e)) (held-after true s e (spared e a) h .direction) turns (started (afterB s e)) refl
+      let k = held-after true s e (spared e a) h in
+      record { held = k; pair = paired-settles (conditions (afterB s e)) (k .direction) turns (started (afterB s e)) refl }
 
-  pub step-pairs : (bytes : List ℕ) → mayCome runAllows s bytes ≡ true → (step s bytes) .acks ≡ length (sentBy s bytes)
-  step-pairs = come-law runAllows refl s (λ d r. r .acks ≡ length (r .sent)) pair-refused pair-done
+  pub step-pairs : (bytes : List ℕ) → mayCome runAllows s bytes ≡ true → PairStep (step s bytes)
+  step-pairs = come-law runAllows refl s (λ d r. PairStep r) pair-refused pair-done
+
+pairs-from : (s : State) (records : List (List ℕ)) → Held true (s .registers) → allCome runAllows s records ≡ true → acksAlong s records ≡ length (along sentBy s records)
+pairs-from s [] h q = refl
+pairs-from s (bytes ∷ more) h q =
+    let a = step-pairs s h bytes (left-true (mayCome runAllows s bytes) (allCome runAllows ((step s bytes) .state) more) q) in
+    let b = pairs-from ((step s bytes) .state) more (a .held) (right-true (mayCome runAllows s bytes) (allCome runAllows ((step s bytes) .state) more) q) in
+    rw (a .pair, b, length-append)
+
+pub write-run-acks : (s : State) (records : List (List ℕ)) → Starts true s → allCome runAllows s records ≡ true → acksAlong s records ≡ length (along sentBy s records)
+write-run-acks s records h q = pairs-from s records (held-at-start true s h) q
 
 -- in a run ACK is driven by the automatic ACK alone: ACKO is 0
 pub run-drives-no-other-ack : (w : Bool) (r : Registers) (t : Transfer) → Held w r → ackDriven r t ≡ t .ack

@@ -1,6 +1,6 @@
 -- Lists of records: what holds along them, and how they join.
 use mathlib.Core.Path.{_≡_, refl, sym, _∙_, ap}
-use mathlib.Core.Bool.{Bool, true, false, _&&_, and-assoc, or-true}
+use mathlib.Core.Bool.{Bool, true, _&&_, and-assoc, or-true}
 use mathlib.Core.List.{List, [], _∷_, _++_, append-assoc, append-nil}
 use Prim.Native.Nat.{ℕ}
 use Rattle.rules.specs.State.{State}
@@ -35,6 +35,11 @@ come-append allows s [] b = refl
 come-append allows s (bytes ∷ more) b =
     ap (λ (x : Bool). mayCome allows s bytes && x) (come-append allows ((step s bytes) .state) more b)
     ∙ sym (and-assoc (mayCome allows s bytes) (allCome allows ((step s bytes) .state) more) (allCome allows (after ((step s bytes) .state) more) b))
+
+-- the records up to any moment are such a list too
+pub earlier-comes : (allows : Event → Bool) (s : State) (earlier later : List (List ℕ)) → allCome allows s (earlier ++ later) ≡ true → allCome allows s earlier ≡ true
+earlier-comes allows s earlier later h =
+    left-true (allCome allows s earlier) (allCome allows (after s earlier) later) (rw (come-append allows s earlier later) at h)
 
 -- a record whose event is allowed may come in any state
 pub said-comes : (allows : Event → Bool) (s : State) (bytes : List ℕ) → says allows (decode bytes) ≡ true → mayCome allows s bytes ≡ true

@@ -1,18 +1,17 @@
 -- The clearing: no byte is sent from the cut to the next start, whatever the order, as long as the paper's condition holds.
 use mathlib.Core.Path.{_≡_, refl, sym, _∙_, ap}
 use mathlib.Core.Bool.{Bool, true, false, not, _&&_, _||_, cond, and-false}
-use mathlib.Core.List.{List, [], _∷_, _++_}
+use mathlib.Core.List.{List, [], _∷_}
 use Prim.Native.Nat.{ℕ}
 use native.Mathlib.Omega.{arith}
 use lib.Dec.{eqb}
-use lib.ListN.{length, drop}
+use lib.ListN.{length}
 use lib.Seq.{drop-nil}
 use borrow.Author.Tests.{eqb-true, not-true}
 use Rattle.rules.specs.Numbers.{bit}
 use Rattle.rules.specs.Registers.{scsisigOf}
 use Rattle.rules.specs.State.{State, powerReset}
-use Rattle.rules.specs.Records.{decode}
-use Rattle.rules.specs.Events.{writes, valueOf, offered, asked, portWrite}
+use Rattle.rules.specs.Events.{writes, valueOf, offered, portWrite}
 use Rattle.rules.specs.Codes.{accessCode, isDone}
 use Rattle.rules.specs.StepA.{clears, clrch, rstfifo, withAtn, registersA, hostA, transferA, afterA}
 use Rattle.rules.specs.StepB.{registersB, transferB, applied, edgesOf, afterB}
@@ -30,10 +29,10 @@ use Rattle.rules.specs.declared.records.Decoded.{Decoded}
 use Rattle.rules.specs.declared.records.Decoded.the-variants.{Well}
 use Rattle.rules.proofs.Logic.{never, left-true, right-true}
 use Rattle.runs.specs.Comes.{isRefusal, says, mayCome, unlessRefused, along, acksAlong}
-use Rattle.runs.specs.Run.{accepted, sentBy}
+use Rattle.runs.specs.Run.{sentBy}
 use Rattle.runs.specs.Clearing.{switchedOff, bothEmpty, leavesAcko, allOff, mayClear, allClear}
 use Rattle.runs.proofs.Access.{done-code, step-law}
-use Rattle.runs.proofs.Settles.{Unsent, unsent-settles, settle-still, empty-no-move, empty-no-handshake}
+use Rattle.runs.proofs.Settles.{unsent-settles, settle-still, empty-no-move, empty-no-handshake}
 use Rattle.runs.proofs.Stages.{outbound-stores-none, no-automatic-ack}
 use Rattle.runs.proofs.Cut.{idle-event}
 
@@ -128,6 +127,10 @@ off-scsien : (s : State) → switchedOff s ≡ true → s .registers .sxfrctl0 .
 unfolding switchedOff
 off-scsien s h =
     not-true (s .registers .sxfrctl0 .scsien) (left-true (not (s .registers .sxfrctl0 .scsien)) (not (s .registers .sxfrctl0 .spioen)) h)
+
+pub off-by : (s : State) → s .registers .sxfrctl0 .scsien ≡ false → s .registers .sxfrctl0 .spioen ≡ false → switchedOff s ≡ true
+unfolding switchedOff
+off-by s a b = rw (a, b)
 
 off-spioen : (s : State) → switchedOff s ≡ true → s .registers .sxfrctl0 .spioen ≡ false
 unfolding switchedOff

@@ -1,8 +1,8 @@
 -- The cut: after it nothing is sent and the counter stays, so that the three reads give the number of bytes taken.
 use mathlib.Core.Path.{_≡_, refl, sym, _∙_, ap}
 use mathlib.Core.Bool.{Bool, true, false, not, _&&_, _||_, cond, and-false}
-use mathlib.Core.List.{List, [], _∷_, _++_, append-assoc, append-nil}
-use Prim.Native.Nat.{ℕ, _+_, _*_, _/_, _%_, _<_, _≤_}
+use mathlib.Core.List.{List, [], _∷_, _++_, append-nil}
+use Prim.Native.Nat.{ℕ, _+_, _*_, _%_, _<_}
 use native.Mathlib.Omega.{arith}
 use lib.Dec.{eqb}
 use lib.ListN.{length, take, getD}
@@ -34,7 +34,7 @@ use Rattle.rules.specs.declared.records.Decoded.{Decoded}
 use Rattle.rules.specs.declared.records.Decoded.the-variants.{Well, Ill}
 use Rattle.rules.proofs.Logic.{never, left-true, right-true}
 use Rattle.runs.specs.Comes.{isRefusal, says, mayCome, allCome, along}
-use Rattle.runs.specs.Run.{Starts, keepsRun, writeAllowed, runAllows, accepted, sentBy}
+use Rattle.runs.specs.Run.{keepsRun, writeAllowed, runAllows, accepted, sentBy}
 use Rattle.runs.specs.Cut.{cutValue, isCut, setsScsien, calm, readAnswer, readAnswers, counterRead}
 use Rattle.runs.specs.Rounds.{Round, recordsOf, afterCut, afterReading, takenIn, numberRead, Proceeds}
 use Rattle.runs.proofs.Along.{after-append, along-append, come-append, said-comes}
@@ -260,6 +260,7 @@ pub record CutAndRead (s : State) (r : Round) : Type 0 where
   pub number : numberRead s r ≡ length (takenIn s r) % 16777216
   pub first : takenIn s r ≡ take (length (takenIn s r)) (along accepted s (recordsOf r))
   pub inRun : takenIn s r ≡ along sentBy s (r .run)
+  pub afterwards : along sentBy (after s (r .run)) (r .cut ∷ r .reading) ≡ []
   pub off : (afterReading s r) .registers .sxfrctl0 .scsien ≡ false
   pub moment : WriteMoment (afterReading s r) (along accepted s (recordsOf r)) (takenIn s r)
 
@@ -273,8 +274,9 @@ cut-and-read s r p =
     let c = cut-stops true (after s (r .run)) (m .held) (r .cut) (p .cut) (p .cutCode) in
     let q = calm-quiet true (afterCut s r) (r .reading) (c .off) (c .held) (p .reading) in
     let l = write-run s (recordsOf r) (p .start) (still-a-run s r p) in
+    let none : along sentBy (after s (r .run)) (r .cut ∷ r .reading) ≡ [] = rw (c .none, q .none) in
     let t : takenIn s r ≡ along sentBy s (r .run) =
-    along-append sentBy s (r .run) (r .cut ∷ r .reading) ∙ rw (c .none, q .none) (append-nil (along sentBy s (r .run))) in
+    along-append sentBy s (r .run) (r .cut ∷ r .reading) ∙ rw none (append-nil (along sentBy s (r .run))) in
     let n : (afterCut s r) .transfer .counter ≡ length (takenIn s r) % 16777216 =
     c .same ∙ m .count ∙ ap (λ (x : List ℕ). length x % 16777216) (sym t) in
     let small : (afterCut s r) .transfer .counter < 16777216 = rw n (omega arith) in
@@ -282,6 +284,7 @@ cut-and-read s r p =
       number = counter-read true (afterCut s r) (r .reading) (c .off) (c .held) (p .reading) (p .low) (p .middle) (p .high) small ∙ n;
       first = front (takenIn s r) _ (along accepted s (recordsOf r)) (l .order);
       inRun = t;
+      afterwards = none;
       off = q .off;
       moment = rw (after-append s (r .run) (r .cut ∷ r .reading)) at l;
     }

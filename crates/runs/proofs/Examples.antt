@@ -1,6 +1,6 @@
 -- The statements are not empty: chains of rounds that meet every hypothesis, computed; and the order of clearing that fails.
 use mathlib.Core.Path.{_≡_, refl}
-use mathlib.Core.Bool.{Bool, true, false}
+use mathlib.Core.Bool.{true, false}
 use mathlib.Core.List.{List, [], _∷_, _++_}
 use Prim.Native.Nat.{ℕ, zero, suc, _+_, _*_}
 use Rattle.rules.specs.State.{State, powerReset}
@@ -11,7 +11,7 @@ use Rattle.rules.proofs.Computes.{computes}
 use Rattle.runs.specs.Comes.{mayCome, allCome, along}
 use Rattle.runs.specs.Run.{Starts, keepsRun, writeAllowed, runAllows, sentBy, hostRead, tookAtReq, tookByHandshakes, chipTook}
 use Rattle.runs.specs.Cut.{cutValue, isCut, setsScsien, calm, readAnswer}
-use Rattle.runs.specs.Clearing.{switchedOff, bothEmpty, mayClear, writeRecord, clearingOf}
+use Rattle.runs.specs.Clearing.{switchedOff, bothEmpty, mayClear, allClear, writeRecord, clearingOf}
 use Rattle.runs.specs.Rounds.{Round, Chain, taken, reached, AllCleared}
 use Rattle.runs.proofs.Tests.{chain-by-test, cleared-by-test}
 
@@ -153,6 +153,28 @@ left-over = refl
 pub left-over-sent : along sentBy (after twelve wrongOrder) (records (0xA0000006 ∷ [])) ≡ 0x38 ∷ []
 unfolding follows ready twelve
 left-over-sent = refl
+
+-- why the port is left alone until the start: both FIFOs empty and SCSIEN set, but the counter not yet 0, so no run has started
+unfoldable pub unstarted : State
+unstarted = after powerReset (records (0x320000C8 ∷ 0x210000E0 ∷ 0x28000001 ∷ 0xA0000006 ∷ []))
+
+-- a port write, then CLRSTCNT
+abbrev tooEarly : List (List ℕ)
+tooEarly = records (0x36000041 ∷ 0x210000F0 ∷ [])
+
+-- the target takes a byte that no run counts, and a run can start after it
+pub sent-outside : along sentBy unstarted tooEarly ≡ 0x41 ∷ []
+unfolding follows unstarted
+sent-outside = refl
+
+pub starts-after-it : Starts true (after unstarted tooEarly)
+unfolding follows unstarted
+starts-after-it =
+    record { host = refl; scsi = refl; counter = refl; offset = refl; acko = refl; opened = refl; direction = refl }
+
+pub not-a-clearing : allClear unstarted tooEarly ≡ false
+unfolding follows unstarted
+not-a-clearing = refl
 
 -- A READ RUN, 8 bits: an asynchronous byte, a bus reset, and what is left in the FIFO is read; refused: a port write, a read with no byte
 unfoldable pub inward : State

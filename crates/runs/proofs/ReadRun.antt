@@ -1,22 +1,21 @@
 -- A read run: at every moment the bytes read by the host, then the host FIFO, then the SCSI FIFO, are what the chip took.
 use mathlib.Core.Path.{_≡_, refl, sym, _∙_, ap, ap₂}
-use mathlib.Core.Bool.{Bool, true, false, _&&_, _||_, cond}
+use mathlib.Core.Bool.{Bool, true, false, cond}
 use mathlib.Core.List.{List, [], _∷_, _++_, append-assoc, append-nil}
 use Prim.Native.Nat.{ℕ, _+_, _*_, _≤_}
 use native.Mathlib.Omega.{arith}
 use lib.Dec.{eqb}
-use lib.ListN.{length, take, drop, getD, replicate, take-append-drop}
+use lib.ListN.{length, take, drop, getD, take-append-drop}
 use borrow.Author.Tests.{eqb-true, ltb-false}
 use Rattle.rules.specs.State.{State, powerReset}
 use Rattle.rules.specs.Records.{decode}
 use Rattle.rules.specs.Map.{table, readAt}
 use Rattle.rules.specs.Reads.{readOf, readMapped, valueRead}
-use Rattle.rules.specs.Seen.{dataSeen}
 use Rattle.rules.specs.Events.{asked, portRead}
 use Rattle.rules.specs.Codes.{noBytes, accessCode, isDone}
 use Rattle.rules.specs.StepA.{transferA, afterA}
 use Rattle.rules.specs.StepB.{transferB, applied, edgesOf, afterB}
-use Rattle.rules.specs.StepC.{Settling, conditions, started, turns, settledC}
+use Rattle.rules.specs.StepC.{conditions, started, turns, settledC}
 use Rattle.rules.specs.StepD.{finished, afterD}
 use Rattle.rules.specs.Answers.{Stepped}
 use Rattle.rules.specs.Step.{refused, done, step, after}
@@ -33,7 +32,7 @@ use Rattle.runs.proofs.Access.{Passed, passed, done-code, step-law, com
 use Rattle.runs.proofs.Along.{along-law}
 use Rattle.runs.proofs.Settles.{storedBy, Inbound, inbound-settles}
 use Rattle.runs.proofs.Spared.{Spared, spared}
-use Rattle.runs.proofs.Stages.{Held, held-at-start, held-after, counter-before, host-inbound}
+use Rattle.runs.proofs.Stages.{Held, held-at-start, held-after, host-inbound}
 
 -- at a moment of a read run, after the chip took these bytes and the host read those
 pub record ReadMoment (s : State) (tookSoFar readSoFar : List ℕ) : Type 0 where
@@ -122,7 +121,7 @@ module _ (s : State) (a b : List ℕ) (i : ReadMoment s a b) where
 start-moment : (s : State) → Starts false s → ReadMoment s [] []
 start-moment s h = record { held = held-at-start false s h; order = rw (h .scsi, h .host) }
 
--- THE READ RUN: whatever has come since the start, bus resets and bus free among it
+-- THE READ RUN: whatever has come since the start, bus resets and bus free among it, and so at every moment (earlier-comes)
 pub read-run : (s : State) (records : List (List ℕ)) → Starts false s → allCome runAllows s records ≡ true → ReadMoment (after s records) (along chipTook s records) (along hostRead s records)
 read-run s records h q = along-law runAllows ReadMoment chipTook hostRead step-moment s records [] [] (start-moment s h) q
 

@@ -1,8 +1,8 @@
 -- The chain: over any number of rounds the target takes a beginning of the driver's data, each byte once, in order.
 use mathlib.Core.Path.{_≡_, refl, sym, _∙_, ap}
 use mathlib.Core.Bool.{Bool, true, false, cond}
-use mathlib.Core.List.{List, [], _∷_, _++_, append-nil}
-use Prim.Native.Nat.{ℕ, _+_, _%_, _<_, _≤_}
+use mathlib.Core.List.{List, [], _∷_, _++_}
+use Prim.Native.Nat.{ℕ, _+_, _%_, _≤_}
 use native.Mathlib.Nat.{add-zero}
 use native.Mathlib.Omega.{arith}
 use lib.ListN.{length, take, drop, length-append}
@@ -11,16 +11,15 @@ use Rattle.rules.specs.State.{State}
 use Rattle.rules.specs.Records.{decode}
 use Rattle.rules.specs.Events.{offered}
 use Rattle.rules.specs.Step.{step, after}
-use Rattle.rules.specs.declared.codes.Code.{Code}
-use Rattle.rules.specs.declared.records.Decoded.{Decoded}
-use Rattle.runs.specs.Comes.{isRefusal, eventBytes, unlessRefused, along}
+use Rattle.runs.specs.Comes.{isRefusal, eventBytes, along, acksAlong}
 use Rattle.runs.specs.Run.{accepted, sentBy}
-use Rattle.runs.specs.Rounds.{Offers, Round, recordsOf, afterCut, afterReading, afterRound, takenIn, numberRead, Proceeds, Follows, Chain, taken, reached, AllCleared, allRecords}
+use Rattle.runs.specs.Clearing.{allOff, allClear}
+use Rattle.runs.specs.Rounds.{Offers, Round, recordsOf, afterReading, afterRound, takenIn, numberRead, Proceeds, Follows, Chain, taken, reached, AllCleared, allRecords}
 use Rattle.runs.proofs.Along.{after-append, along-append}
-use Rattle.runs.proofs.Clearing.{clearing-sends-nothing}
+use Rattle.runs.proofs.Clearing.{clearing-sends-nothing, Silent, off-by, no-ack-until-empty}
 use Rattle.runs.proofs.Sequence.{ClearingWorks, clearing-works}
-use Rattle.runs.proofs.WriteRun.{WriteMoment, write-run}
-use Rattle.runs.proofs.Cut.{CutAndRead, cut-and-read, front}
+use Rattle.runs.proofs.WriteRun.{write-run}
+use Rattle.runs.proofs.Cut.{cut-and-read, front}
 
 -- what the port accepts of an offer in order is the front of the data
 accepted-front : (rest : List ℕ) (s : State) (bytes : List ℕ) → take (length (eventBytes offered (decode bytes))) rest ≡ eventBytes offered (decode bytes) → accepted s bytes ≡ take (length (accepted s bytes)) rest
@@ -92,6 +91,18 @@ only-taken-is-sent s (r ∷ more) h =
     (ap (λ (x : State). along sentBy x (r .clearing ++ allRecords more)) (after-append s (r .run) (r .cut ∷ r .reading))
     ∙ along-append sentBy (afterReading s r) (r .clearing) (allRecords more)
     ∙ rw (clearing-sends-nothing (afterReading s r) (r .clearing) (h .0)) (only-taken-is-sent (afterRound s r) more (h .1)))
+
+-- from the cut to the next start no byte is sent
+pub cut-to-start : (s : State) (r : Round) → Proceeds s r → allClear (afterReading s r) (r .clearing) ≡ true → along sentBy (after s (r .run)) (r .cut ∷ r .reading ++ r .clearing) ≡ []
+cut-to-start s r p h =
+    along-append sentBy (after s (r .run)) (r .cut ∷ r .reading) (r .clearing)
+    ∙ rw (cut-and-read s r p .afterwards) (clearing-sends-nothing (afterReading s r) (r .clearing) h)
+
+-- and until the FIFOs are empty the chip issues no ACK of any kind
+pub cut-to-empty : (s : State) (r : Round) → Proceeds s r → (records : List (List ℕ)) → allOff (afterReading s r) records ≡ true → Silent (afterReading s r) (after (afterReading s r) records) (acksAlong (afterReading s r) records)
+cut-to-empty s r p records h =
+    let c = cut-and-read s r p in
+    no-ack-until-empty (afterReading s r) records (off-by (afterReading s r) (c .off) (c .moment .held .spioen)) (c .moment .held .acko) h
 
 -- after a cut the concrete clearing is always there
 pub clearing-after-cut : (s : State) (r : Round) → Proceeds s r → (eightbit : Bool) → ClearingWorks (afterReading s r) eightbit

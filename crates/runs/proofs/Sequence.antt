@@ -1,32 +1,29 @@
 -- The concrete clearing reaches the start of a run, whatever the lines are.
-use mathlib.Core.Path.{_≡_, refl, sym, _∙_, ap}
+use mathlib.Core.Path.{_≡_, refl, _∙_}
 use mathlib.Core.Bool.{Bool, true, false, not, _&&_, _||_, cond, and-false, or-true}
-use mathlib.Core.List.{List, [], _∷_, _++_}
+use mathlib.Core.List.{List, []}
 use Prim.Native.Nat.{ℕ, _+_, _≤_}
 use native.Mathlib.Omega.{arith}
-use lib.Dec.{eqb, ltb}
-use lib.ListN.{length, drop}
+use lib.ListN.{length}
 use borrow.Author.Tests.{le-ltb}
 use Rattle.rules.specs.Numbers.{bit}
 use Rattle.rules.specs.Map.{offsetOf, table, writtenAt}
-use Rattle.rules.specs.State.{State, Transfer}
+use Rattle.rules.specs.State.{State}
 use Rattle.rules.specs.Seen.{normal, path}
 use Rattle.rules.specs.Records.{decode, fieldsOf, wellFormed}
-use Rattle.rules.specs.Events.{writes, reads, valueOf, offered, asked, wide, portWrite, portRead, linesAfter}
-use Rattle.rules.specs.Codes.{absent, testValue, shut, noRoom, noBytes, accessCode, isDone}
+use Rattle.rules.specs.Events.{writes, reads, valueOf, offered, asked, portWrite, portRead, linesAfter}
+use Rattle.rules.specs.Codes.{absent, testValue, shut, noRoom, noBytes, accessCode}
 use Rattle.rules.specs.StepA.{clrstcnt, clrch, rstfifo, latchAccess, automaticAck, registersA, hostA, counterA, transferA, afterA}
 use Rattle.rules.specs.StepB.{reqRises, synchronousReq, registersB, edges, transferB, applied, edgesOf, afterB}
-use Rattle.rules.specs.StepC.{Settling, conditions, started, turns, settledC}
+use Rattle.rules.specs.StepC.{conditions, started, turns, settledC}
 use Rattle.rules.specs.StepD.{finished, afterD}
-use Rattle.rules.specs.Step.{refused, done, access, stepEvent, stepDecoded, step, after}
+use Rattle.rules.specs.Step.{done, access, stepEvent, stepDecoded, step, after}
 use Rattle.rules.specs.declared.registers.Registers.{Registers}
-use Rattle.rules.specs.declared.codes.Code.{Code}
 use Rattle.rules.specs.declared.codes.Code.the-variants.{Done}
 use Rattle.rules.specs.declared.map.Register.{Register}
 use Rattle.rules.specs.declared.map.Register.the-variants.{SXFRCTL0, SCSISIGO, DMACNTRL0}
 use Rattle.rules.specs.declared.records.Event.{Event}
 use Rattle.rules.specs.declared.records.Event.the-variants.{Write}
-use Rattle.rules.specs.declared.records.Decoded.{Decoded}
 use Rattle.rules.specs.declared.records.Decoded.the-variants.{Well}
 use Rattle.runs.specs.Run.{Starts, accepted}
 use Rattle.runs.specs.Clearing.{switchedOff, bothEmpty, mayClear, allClear, allDone, writeRecord, manualValue, controlValue, clearValue, signalValue, openValue, clearingOf}

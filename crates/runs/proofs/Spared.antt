@@ -1,14 +1,13 @@
 -- What an event that a run allows does not do.
-use mathlib.Core.Path.{_≡_, refl, subst, ap, _∙_}
-use mathlib.Core.Bool.{Bool, true, false, not, _&&_, _||_, cond, and-false}
-use mathlib.Core.List.{List, [], _∷_, _++_}
+use mathlib.Core.Path.{_≡_, refl}
+use mathlib.Core.Bool.{Bool, true, false, not, _&&_}
 use Prim.Native.Nat.{ℕ}
 use lib.Dec.{eqb}
 use borrow.Author.Tests.{eqb-true, not-true}
 use Rattle.rules.specs.Numbers.{bit}
 use Rattle.rules.specs.Map.{offsetOf}
 use Rattle.rules.specs.Events.{writes, valueOf}
-use Rattle.rules.specs.StepA.{clrstcnt, clrch, rstfifo}
+use Rattle.rules.specs.StepA.{clrstcnt, clrch}
 use Rattle.rules.specs.declared.map.Register.{Register}
 use Rattle.rules.specs.declared.map.Register.the-variants.{SXFRCTL0, SCSISIGO, STCNT0, STCNT1, STCNT2, DMACNTRL0}
 use Rattle.rules.specs.declared.records.Event.{Event}

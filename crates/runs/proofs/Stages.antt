@@ -1,18 +1,16 @@
 -- What an event that a run allows leaves of the registers and of the data path before settling.
-use mathlib.Core.Path.{_≡_, refl, sym, _∙_, ap}
+use mathlib.Core.Path.{_≡_, refl, sym, _∙_}
 use mathlib.Core.Bool.{Bool, true, false, not, _&&_, _||_, cond, Bool·beq, and-false}
-use mathlib.Core.List.{List, [], _∷_, _++_, append-nil}
-use Prim.Native.Nat.{ℕ, _+_, _≤_}
-use native.Mathlib.Omega.{arith}
-use lib.Dec.{eqb, ltb}
-use lib.ListN.{length, take, drop, length-append}
+use mathlib.Core.List.{[], _++_, append-nil}
+use Prim.Native.Nat.{_+_, _≤_}
+use lib.Dec.{eqb}
+use lib.ListN.{length, drop, length-append}
 use borrow.Author.Tests.{not-true, ltb-false}
-use Rattle.rules.specs.Numbers.{bit}
 use Rattle.rules.specs.Registers.{sxfrctl0Of}
-use Rattle.rules.specs.State.{State, Transfer}
-use Rattle.rules.specs.Seen.{ioSeen, reqSeen, automatic, normal, connected, matched, path, synchronous}
+use Rattle.rules.specs.State.{State}
+use Rattle.rules.specs.Seen.{ioSeen, automatic, normal, matched, path}
 use Rattle.rules.specs.Events.{writes, valueOf, offered, asked, wide, portWrite, portRead}
-use Rattle.rules.specs.Codes.{shut, noRoom, accessCode, isDone}
+use Rattle.rules.specs.Codes.{shut, noRoom}
 use Rattle.rules.specs.StepA.{clrstcnt, clrch, rstfifo, automaticAck, registersA, hostA, counterA, transferA, afterA}
 use Rattle.rules.specs.StepB.{synchronousReq, registersB, edges, transferB, applied, edgesOf, afterB}
 use Rattle.rules.specs.declared.registers.Registers.{Registers}
@@ -20,10 +18,10 @@ use Rattle.rules.specs.declared.registers.Sxfrctl0.{Sxfrctl0}
 use Rattle.rules.specs.declared.map.Register.the-variants.{SXFRCTL0}
 use Rattle.rules.specs.declared.records.Event.{Event}
 use Rattle.rules.specs.declared.records.Event.the-variants.{PowerReset, Write, Read, WordWrite, WordRead, Drive, Ticks}
-use Rattle.rules.proofs.Logic.{never, left-true, right-true}
+use Rattle.rules.proofs.Logic.{never, left-true}
 use Rattle.runs.specs.Run.{Starts}
 use Rattle.runs.proofs.Spared.{Spared}
-use Rattle.runs.proofs.Access.{Passed, passed}
+use Rattle.runs.proofs.Access.{Passed}
 
 -- what a run holds of the registers
 pub record Held (write : Bool) (r : Registers) : Type 0 where
@@ -159,11 +157,11 @@ host-outbound s e p w k = rw (no-rstfifo e p) (go (portWrite e) refl)
     go : (b : Bool) → portWrite e ≡ b → cond b (s .transfer .host ++ offered e) (drop (asked e) (s .transfer .host)) ≡ s .transfer .host ++ offered e
     go true q = refl
     go false q =
-        rw (asks-none e (no-port-read (s .registers) e w (k .open′)), offers-none e q) (sym (append-nil (s .transfer .host)))
+        rw (asks-none e (no-port-read (s .registers) e w (k .unshut)), offers-none e q) (sym (append-nil (s .transfer .host)))
 
 pub host-inbound : (s : State) (e : Event) → Spared e → s .registers .dmacntrl0 .write ≡ false → Passed s e → (afterB s e) .transfer .host ≡ drop (asked e) (s .transfer .host)
 unfolding afterB applied transferB afterA transferA hostA
-host-inbound s e p w k = rw (no-rstfifo e p, no-port-write (s .registers) e w (k .open′))
+host-inbound s e p w k = rw (no-rstfifo e p, no-port-write (s .registers) e w (k .unshut))
 
 -- no CLRCH: the SCSI FIFO stays until settling, but for a byte that a REQ stores
 pub scsi-before : (s : State) (e : Event) → Spared e → (edgesOf s e) .stored ≡ false → (afterB s e) .transfer .scsi ≡ s .transfer .scsi

@@ -1,18 +1,17 @@
 -- A write run: at every moment the bytes sent, then the SCSI FIFO, then the host FIFO, are what the port accepted, and the counter is
 -- the number sent.
 use mathlib.Core.Path.{_≡_, refl, sym, _∙_, ap}
-use mathlib.Core.Bool.{Bool, true, false, _&&_}
-use mathlib.Core.List.{List, [], _∷_, _++_, append-assoc, append-nil}
-use Prim.Native.Nat.{ℕ, _+_, _%_, _≤_}
+use mathlib.Core.Bool.{true}
+use mathlib.Core.List.{List, [], _++_, append-assoc, append-nil}
+use Prim.Native.Nat.{ℕ, _%_, _≤_}
 use native.Mathlib.Nat.{add-zero}
 use native.Mathlib.Omega.{arith}
 use lib.ListN.{length, length-append}
 use Rattle.rules.specs.State.{State}
-use Rattle.rules.specs.Records.{decode}
 use Rattle.rules.specs.Events.{offered}
 use Rattle.rules.specs.Codes.{accessCode, isDone}
-use Rattle.rules.specs.StepB.{edgesOf, afterB}
-use Rattle.rules.specs.StepC.{Settling, conditions, started, turns, settledC}
+use Rattle.rules.specs.StepB.{afterB}
+use Rattle.rules.specs.StepC.{conditions, started, turns, settledC}
 use Rattle.rules.specs.StepD.{finished, afterD}
 use Rattle.rules.specs.Answers.{Stepped}
 use Rattle.rules.specs.Step.{refused, done, step, after}
@@ -20,11 +19,10 @@ use Rattle.rules.specs.declared.codes.Code.{Code}
 use Rattle.rules.specs.declared.records.Event.{Event}
 use Rattle.rules.specs.declared.records.Decoded.{Decoded}
 use Rattle.rules.specs.declared.records.Decoded.the-variants.{Well}
-use Rattle.rules.proofs.Logic.{left-true, right-true}
 use Rattle.runs.specs.Comes.{isRefusal, mayCome, allCome, unlessRefused, along}
 use Rattle.runs.specs.Run.{Starts, runAllows, accepted, sentBy}
 use Rattle.runs.proofs.Access.{Passed, passed, done-code, come-law}
-use Rattle.runs.proofs.Along.{along-law, come-append}
+use Rattle.runs.proofs.Along.{along-law}
 use Rattle.runs.proofs.Settles.{Outbound, outbound-settles}
 use Rattle.runs.proofs.Spared.{Spared, spared}
 use Rattle.runs.proofs.Stages.{Held, held-at-start, held-after, outbound-stores-none, counter-before, host-outbound, scsi-before, offered-fits}
@@ -87,12 +85,7 @@ start-moment : (s : State) → Starts true s → WriteMoment s [] []
 start-moment s h =
     record { held = held-at-start true s h; order = rw (h .scsi, h .host); count = h .counter; room = rw (h .host) (omega arith) }
 
--- THE WRITE RUN: whatever has come since the start, bus resets and bus free among it
+-- THE WRITE RUN: whatever has come since the start, bus resets and bus free among it. It holds at every moment, since the records up
+-- to any moment are such a list too (earlier-comes)
 pub write-run : (s : State) (records : List (List ℕ)) → Starts true s → allCome runAllows s records ≡ true → WriteMoment (after s records) (along accepted s records) (along sentBy s records)
 write-run s records h q = along-law runAllows WriteMoment accepted sentBy step-moment s records [] [] (start-moment s h) q
-
--- and so at every moment before
-pub write-run-before : (s : State) (earlier later : List (List ℕ)) → Starts true s → allCome runAllows s (earlier ++ later) ≡ true → WriteMoment (after s earlier) (along accepted s earlier) (along sentBy s earlier)
-write-run-before s earlier later h q =
-    write-run s earlier h
-    (left-true (allCome runAllows s earlier) (allCome runAllows (after s earlier) later) (rw (come-append runAllows s earlier later) at q))
