@@ -15,34 +15,45 @@ use Rattle.registers.specs.Acking.{acking}
 use Rattle.registers.proofs.Acking.{data-seen-acking}
 use Rattle.laws.proofs.Chips.{tidy-registers, tidy-stack, tidy-identity}
 
-unfoldable pub appliedIn : Edges → Chip → Chip → Chip
-appliedIn g last now =
-    let r = registersB (g .rstrises) (g .paritybad) (g .free) (now .registers) in
-    let t = pathView (now .path) in
-    record {
-      lines = now .lines;
-      registers = r;
-      path = pathOf (transferB g (dataSeen (now .registers) (now .lines) t) t);
-      status = statusB g (mismatched r (now .lines) && not (mismatched (last .registers) (last .lines))) (now .status);
-      latches = now .latches;
-      stack = now .stack;
-      quiet = g .quiet;
-      identity = now .identity;
-    }
+module _ (g : Edges) (last now : Chip) where
+  abbrev registersIn : Registers
+  registersIn = registersB (g .rstrises) (g .paritybad) (g .free) (now .registers)
 
--- as the code puts it together
-pub applied-made : (g : Edges) (last now : Chip) {byte : ℕ} {r : Registers} {p : DataPath} {changes : Bool} {t : Status} → byte ≡ dataSeen (now .registers) (now .lines) (acking (now .path .ack) (now .path .last)) → r ≡ registersB (g .rstrises) (g .paritybad) (g .free) (now .registers) → p ≡ pathOf (transferB g byte (pathView (now .path))) → changes ≡ (mismatched r (now .lines) && not (mismatched (last .registers) (last .lines))) → t ≡ statusB g changes (now .status) → _≡_ {A = Chip} (record { lines = now .lines; registers = r; path = p; status = t; latches = now .latches; stack = now .stack; quiet = g .quiet; identity = now .identity }) (appliedIn g last now)
-unfolding appliedIn pathView
-applied-made g last now a b d e f =
-    let h = data-seen-acking (now .registers) (now .lines) (pathView (now .path)) in
-    cc
+  abbrev changesIn : Registers → Bool
+  changesIn r = mismatched r (now .lines) && not (mismatched (last .registers) (last .lines))
 
--- it is that of the two states
-pub applied-in : (g : Edges) (last now : Chip) → Tidy last → Tidy now → appliedIn g last now ≡ chipOf (applied g (view last) (view now))
-unfolding view chipOf applied phaseChanges appliedIn
-applied-in g last now p q =
-    let a = tidy-registers last p in
-    let b = tidy-registers now q in
-    let k = tidy-stack now q in
-    let i = tidy-identity now q in
-    cc
+  -- the chip by what B changes
+  abbrev chipBy : Registers → DataPath → Status → Chip
+  chipBy r p t =
+      record {
+        lines = now .lines;
+        registers = r;
+        path = p;
+        status = t;
+        latches = now .latches;
+        stack = now .stack;
+        quiet = g .quiet;
+        identity = now .identity;
+      }
+
+  unfoldable pub appliedIn : Chip
+  appliedIn =
+      let t = pathView (now .path) in
+      chipBy registersIn (pathOf (transferB g (dataSeen (now .registers) (now .lines) t) t)) (statusB g (changesIn registersIn) (now .status))
+
+  -- as the code makes it, one part after the other
+  pub applied-made : {byte : ℕ} {r : Registers} {p : DataPath} {changes : Bool} {t : Status} → byte ≡ dataSeen (now .registers) (now .lines) (acking (now .path .ack) (now .path .last)) → r ≡ registersIn → p ≡ pathOf (transferB g byte (pathView (now .path))) → changes ≡ changesIn r → t ≡ statusB g changes (now .status) → chipBy r p t ≡ appliedIn
+  unfolding appliedIn pathView
+  applied-made a b d e f =
+      let h = data-seen-acking (now .registers) (now .lines) (pathView (now .path)) in
+      cc
+
+  -- it is that of the two states
+  pub applied-in : Tidy last → Tidy now → appliedIn ≡ chipOf (applied g (view last) (view now))
+  unfolding view chipOf applied phaseChanges appliedIn
+  applied-in p q =
+      let a = tidy-registers last p in
+      let b = tidy-registers now q in
+      let k = tidy-stack now q in
+      let i = tidy-identity now q in
+      cc

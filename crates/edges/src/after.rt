@@ -3,10 +3,9 @@ ghost use mathlib.Core.Path.{_≡_};
 ghost use mathlib.Core.Bool.{true, not, _&&_, cond};
 ghost use mathlib.Core.List.{[], _∷_, _++_};
 ghost use Prim.Native.Nat.{_+_, _<_};
-ghost use lib.ListN.{length};
 ghost use Rattle.rules.specs.Seen.{mismatched};
 ghost use Rattle.rules.specs.Chips.{scsiView, scsiOf, pathView, pathOf};
-ghost use Rattle.rules.specs.StepB.{scsiseqB, sxfrctl0B, scsisigB, registersB, transferB, statusB};
+ghost use Rattle.rules.specs.StepB.{scsiseqB, scsisigB, registersB, transferB, statusB};
 ghost use Rattle.fifos.specs.Fifos.{ScsiTidy, PathTidy};
 ghost use Rattle.edges.specs.Room.{Room};
 use fifos::scsi::pushed;
@@ -19,7 +18,6 @@ use rules::records::Lines;
 use rules::registers::Registers;
 use rules::registers::Scsiseq;
 use rules::registers::Scsisig;
-use rules::registers::Sxfrctl0;
 
 // "340h bits 7-1 ... become 0"
 fn scsiseq_b(reset: bool, q: Scsiseq) -> Scsiseq

@@ -3,7 +3,7 @@ ghost use mathlib.Core.Path.{_≡_};
 ghost use mathlib.Core.Bool.{false, not, _&&_, _||_, cond};
 ghost use Prim.Native.Nat.{_+_, min};
 ghost use lib.Dec.{leb};
-ghost use Rattle.rules.specs.Seen.{rstSeen, selSeen, bsySeen, ioSeen, reqSeen, connected, matched, path, synchronous, limit};
+ghost use Rattle.rules.specs.Seen.{rstSeen, selSeen, bsySeen, ioSeen, connected, matched, path, synchronous, limit};
 ghost use Rattle.rules.specs.StepB.{registersB};
 ghost use Rattle.edges.specs.Inbound.{inboundEven};
 use parity::is_even;

@@ -1,5 +1,6 @@
 // Step D, what follows settling; then the latches.
 ghost use mathlib.Core.Path.{_≡_};
+ghost use mathlib.Core.Bool.{false};
 ghost use Rattle.rules.specs.Chips.{view, chipOf, pathView};
 ghost use Rattle.rules.specs.Ranges.{Tidy};
 ghost use Rattle.rules.specs.Interrupts.{latched};
@@ -55,13 +56,14 @@ pub fn status_d(acks: u8, seen: bool, t: Status) -> Status
     n
 }
 
-// A latch sets when its status rises while enabled, or when its enable rises while status is 1, and stays.
-fn latched(kept: bool, enable: bool, before: bool, status: bool, raised: bool) -> bool
-    ensures { λ b. ⌜ b ≡ latched kept enable before status raised ⌝ }
+// A latch sets when its status rises while enabled, or when its enable rises while status is 1.
+fn sets(enable: bool, before: bool, status: bool, raised: bool) -> bool
+    ensures { λ b. ⌜ b ≡ latched false enable before status raised ⌝ }
 {
-    kept | (enable & ((raised & !status) | (status & !before)))
+    enable & ((raised & !status) | (status & !before))
 }
 
+// The latches; what is set stays.
 pub fn latches_d(
     before: Registers,
     r: Registers,
@@ -71,51 +73,17 @@ pub fn latches_d(
 ) -> Latches
     ensures { λ n. ⌜ n ≡ latchesD before r status raised k ⌝ }
 {
+    let c = r.simode0;
+    let d = before.simode0;
     let e = r.simode1;
     let f = before.simode1;
     Latches {
-        spiordy: latched(
-            k.spiordy,
-            r.simode0.enspiordy,
-            before.simode0.enspiordy,
-            status.spiordy,
-            raised.spiordy,
-        ),
-        scsirsti: latched(
-            k.scsirsti,
-            e.enscsirst,
-            f.enscsirst,
-            status.scsirsti,
-            raised.scsirsti,
-        ),
-        busfree: latched(
-            k.busfree,
-            e.enbusfree,
-            f.enbusfree,
-            status.busfree,
-            raised.busfree,
-        ),
-        scsiperr: latched(
-            k.scsiperr,
-            e.enscsiperr,
-            f.enscsiperr,
-            status.scsiperr,
-            raised.scsiperr,
-        ),
-        phasechg: latched(
-            k.phasechg,
-            e.enphasechg,
-            f.enphasechg,
-            status.phasechg,
-            raised.phasechg,
-        ),
-        reqinit: latched(
-            k.reqinit,
-            e.enreqinit,
-            f.enreqinit,
-            status.reqinit,
-            raised.reqinit,
-        ),
+        spiordy: k.spiordy | sets(c.enspiordy, d.enspiordy, status.spiordy, raised.spiordy),
+        scsirsti: k.scsirsti | sets(e.enscsirst, f.enscsirst, status.scsirsti, raised.scsirsti),
+        busfree: k.busfree | sets(e.enbusfree, f.enbusfree, status.busfree, raised.busfree),
+        scsiperr: k.scsiperr | sets(e.enscsiperr, f.enscsiperr, status.scsiperr, raised.scsiperr),
+        phasechg: k.phasechg | sets(e.enphasechg, f.enphasechg, status.phasechg, raised.phasechg),
+        reqinit: k.reqinit | sets(e.enreqinit, f.enreqinit, status.reqinit, raised.reqinit),
     }
 }
 

@@ -1,4 +1,5 @@
 use borrow.Author.Needs.{needs}
+use mathlib.Core.Bool.{_||_}
 use Rattle.rules.specs.StepD.{latchesD}
 use Rattle.finish.proofs.latches_d.Statement.{statement}
 use Rattle.finish.proofs.latches_d.Tie as tie
@@ -6,14 +7,21 @@ use Rattle.finish.proofs.latches_d.Tie as tie
 returns : tie.Need-returns
 unfolding latchesD
 returns c =
+    let s6 = c .before in
+    let s5 = s6 .before .before in
+    let s4 = s5 .before .before in
+    let s3 = s4 .before .before in
+    let s2 = s3 .before .before in
+    let s1 = s2 .before .before in
+    let k = s1 .before .before .before .before .before .args .k in
     λ i.
     record {
-      spiordy = c .before .before .before .before .before .latched .ensures i;
-      scsirsti = c .before .before .before .before .latched2 .ensures i;
-      busfree = c .before .before .before .latched3 .ensures i;
-      scsiperr = c .before .before .latched4 .ensures i;
-      phasechg = c .before .latched5 .ensures i;
-      reqinit = c .latched6 .ensures i;
+      spiordy = k .spiordy || s1 .sets .ensures i;
+      scsirsti = k .scsirsti || s2 .sets2 .ensures i;
+      busfree = k .busfree || s3 .sets3 .ensures i;
+      scsiperr = k .scsiperr || s4 .sets4 .ensures i;
+      phasechg = k .phasechg || s5 .sets5 .ensures i;
+      reqinit = k .reqinit || s6 .sets6 .ensures i;
     }
 
 pub latches-d-spec : {M : Type 1} → statement M

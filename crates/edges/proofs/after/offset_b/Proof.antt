@@ -1,7 +1,5 @@
-use mathlib.Core.Path.{_≡_}
 use Prim.Native.Nat.{_<_}
 use native.Mathlib.Omega.{arith}
-use borrow.Author.Needs.{needs}
 use Rattle.edges.proofs.after.offset_b.Statement.{statement}
 use Rattle.edges.proofs.after.offset_b.Tie as tie
 

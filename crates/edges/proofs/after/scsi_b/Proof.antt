@@ -1,4 +1,3 @@
-use borrow.Author.Needs.{needs}
 use Rattle.edges.proofs.after.scsi_b.Statement.{statement}
 use Rattle.edges.proofs.after.scsi_b.Tie as tie
 
