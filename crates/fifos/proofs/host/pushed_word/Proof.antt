@@ -31,11 +31,11 @@ cast-pushed-2 c = search needs
 pushed-requires-2 : tie.Need-pushed-requires-2
 pushed-requires-2 c κs =
     let a = c .before .before .before in
-    let l = hostView (a .args .f) ++ (a .args .w % 256 ∷ []) in
-    let n : c .pushed .result .count ≡ length l = host-count (c .pushed .result) l (c .pushed .ensures) in
-    let m : a .args .f .count ≡ length (hostView (a .args .f)) = host-count (a .args .f) (hostView (a .args .f)) (a .pre) in
-    let k : length l ≡ length (hostView (a .args .f)) + 1 = length-append (hostView (a .args .f)) _ in
-    (omega arith, host-tidy (c .pushed .result) l (c .pushed .ensures))
+    let f = a .args .f in
+    let g = c .pushed in
+    let m : f .count ≡ length (hostView f) = host-count f (hostView f) (a .pre) in
+    let n : g .result .count ≡ length (hostView f) + 1 = host-count (g .result) _ (g .ensures) ∙ length-append (hostView f) _ in
+    (omega arith, host-tidy (g .result) _ (g .ensures))
 
 returns-2 : tie.Need-returns-2
 unfolding withWord
