@@ -16,6 +16,7 @@ ghost use Rattle.step.specs.Runs.{IsRun};
 pub mod answers;
 pub mod event;
 pub mod reset;
+pub mod run;
 
 use rules::chip::Chip;
 use rules::codes::Code;
