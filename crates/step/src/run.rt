@@ -4,11 +4,11 @@ ghost use Prim.Native.Nat.{_+_, _*_, _<_, _≤_, min};
 ghost use lib.ListN.{length};
 ghost use Rattle.rules.specs.Ranges.{Tidy};
 ghost use Rattle.step.specs.Runs.{IsTurn, IsRun};
+use crate::Ran;
 use crate::answers::answered;
 use crate::answers::store_at;
 use crate::event::stepped;
 use crate::reset::tidied;
-use crate::Ran;
 use rules::chip::Chip;
 
 fn smaller(a: usize, b: usize) -> usize

@@ -7,11 +7,10 @@ use native.Mathlib.Omega.{arith}
 use lib.ListN.{length, drop}
 use Rattle.rules.specs.State.{State}
 use Rattle.rules.specs.Chips.{view, chipOf}
-use Rattle.rules.specs.Ranges.{InRange, Tidy}
+use Rattle.rules.specs.Ranges.{Tidy}
 use Rattle.rules.specs.Step.{after, answers}
 use Rattle.step.specs.Runs.{recordsOf, steppedIn, joined}
 use Rattle.step.proofs.Parts.{tidy-of, view-of}
-use Rattle.step.proofs.Tidied.{view-fits}
 use Rattle.step.proofs.Running.{reached-tidy, chip-next, answers-more}
 use Rattle.step.proofs.run.run.Statement.{statement}
 use Rattle.step.proofs.run.run.Tie as tie
@@ -32,15 +31,11 @@ Inv-loop records answers₀ n chip₀ i₀ buffer chip i =
 abbrev μ-loop : tie.MeasureT-loop
 μ-loop records answers₀ n chip₀ i₀ buffer chip i = n - i
 
--- the chip the loop starts from is in its one form, and stands for what was given
-fits : (c : tie.Start Inv-loop μ-loop) → InRange (view (c .args .c))
-fits c = view-fits (c .args .c) (let z : c .good .0 .1 .1 .0 .0 .0 ≡ c .good .0 .1 .1 .0 .0 .0 = ? in ?) (let z : c .good .0 .1 .1 .0 ≡ c .good .0 .1 .1 .0 = ? in ?) (let z : c .good .0 .1 .1 .1 .1 .1 .0 ≡ c .good .0 .1 .1 .1 .1 .1 .0 = ? in ?)
-
 loop-holds : tie.Need-loop-holds Inv-loop μ-loop
 loop-holds c =
     let start = c .before .before .before .before in
     let tidied = c .tidied in
-    let tidy = tidy-of (view (start .args .c)) (tidied .result) (fits start) (tidied .ensures) in (
+    let tidy = tidy-of (view (start .args .c)) (tidied .result) (tidied .ensures .range) (tidied .ensures .packed) in (
       search needs,
       c .before .smaller .ensures,
       omega arith,
@@ -84,14 +79,13 @@ loop-again c =
 
 returns : tie.Need-returns Inv-loop μ-loop
 returns c =
-    let start = c .before .before .before .before .before .before in
-    let a = start .args in
+    let a = c .before .before .before .before .before .before .args in
     let l = c .before .loop in
     let tidied = c .before .before .tidied in
     let n = c .before .before .before .smaller .result in
     let e : l .i ≡ n = omega arith in
     let k : l .i ≡ steppedIn (a .records .now) (a .answers .now) = e ∙ l .inv .1 in
-    let v : view (tidied .result) ≡ view (a .c) = view-of (view (a .c)) (tidied .result) (fits start) (tidied .ensures) in
+    let v : view (tidied .result) ≡ view (a .c) = view-of (view (a .c)) (tidied .result) (tidied .ensures .range) (tidied .ensures .packed) in
     record {
       count = l .inv .1;
       chip = l .inv .8 ∙ ap (λ (s : State). chipOf (after s (recordsOf (l .i) (a .records .now)))) v
