@@ -1,7 +1,7 @@
 -- Bytes in places: laws of padded lists and of their parts, over the number of places.
 use Prim.Native.Nat.{ℕ, zero, suc, _+_, _-_, _<_, _≤_, min}
 use mathlib.Core.Path.{_≡_, refl, ap, sym, _∙_}
-use mathlib.Core.List.{List, [], _∷_, _++_, append-assoc}
+use mathlib.Core.List.{List, [], _∷_, _++_, append-assoc, append-nil}
 use native.Mathlib.Omega.{arith}
 use native.Mathlib.Numerals.{add-one}
 use native.Mathlib.Decide.{decLe}
@@ -21,6 +21,13 @@ padded-push n l b h = rw (room n l h b, set-append-seam, append-assoc)
 pub padded-length : (n : ℕ) (l : List ℕ) → length l ≤ n → length (padded n l) ≡ n
 unfolding padded
 padded-length n l h = simp (length-append, length-replicate) (omega arith)
+
+-- as many bytes as places leave none for zeros
+pub padded-full : (n : ℕ) (l : List ℕ) → length l ≡ n → padded n l ≡ l
+unfolding padded
+padded-full n l e =
+    let z : n - length l ≡ 0 = omega arith in
+    rw z (append-nil l)
 
 -- what stands before the zeros
 pub padded-take : (n : ℕ) (l : List ℕ) → take (length l) (padded n l) ≡ l
