@@ -4,6 +4,7 @@ ghost use Rattle.step.specs.Outcomes.{IsStep};
 pub mod answers;
 pub mod event;
 pub mod reset;
+pub mod run;
 
 use rules::chip::Chip;
 use rules::codes::Code;
