@@ -8,7 +8,7 @@ use Rattle.rules.specs.State.{State, powerReset}
 use Rattle.rules.specs.Seen.{reqSeen, rstSeen, matched, path, synchronous}
 use Rattle.rules.specs.Records.{decode}
 use Rattle.rules.specs.Events.{linesAfter, ticksOf}
-use Rattle.rules.specs.Codes.{numberOf, absent, testValue, shut, noRoom, noBytes, accessCode, refusedValue, isDone}
+use Rattle.rules.specs.Codes.{numberOf, absent, testValue, shut, noRoom, noBytes, accessCode, refusedValue, isDone, isRefusal}
 use Rattle.rules.specs.StepA.{afterA}
 use Rattle.rules.specs.StepB.{edges, edgesOf, synchronousReq, reqRises, beyondLimit}
 use Rattle.rules.specs.Answers.{Stepped}
@@ -86,17 +86,6 @@ done-passed s e h =
 pub first-malformed : (s : State) (bytes : List ℕ) → decode bytes ≡ Ill → (step s bytes) .code ≡ Malformed
 unfolding step stepDecoded refused
 first-malformed s bytes e = rw e
-
--- the refusals: 1 to 5 and 7
-abbrev pub isRefusal : Code → Bool
-isRefusal Done = false
-isRefusal Malformed = true
-isRefusal Absent = true
-isRefusal Shut = true
-isRefusal NoRoom = true
-isRefusal NoBytes = true
-isRefusal BeyondLimit = false
-isRefusal TestValue = true
 
 pub record Unchanged (s : State) (r : Stepped) : Type 0 where
   pub state : r .state ≡ s

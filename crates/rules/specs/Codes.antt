@@ -99,3 +99,14 @@ isDone NoRoom = false
 isDone NoBytes = false
 isDone BeyondLimit = false
 isDone TestValue = false
+
+-- "A refused access (1 to 5, 7)"
+abbrev pub isRefusal : Code → Bool
+isRefusal Done = false
+isRefusal Malformed = true
+isRefusal Absent = true
+isRefusal Shut = true
+isRefusal NoRoom = true
+isRefusal NoBytes = true
+isRefusal BeyondLimit = false
+isRefusal TestValue = true

@@ -1,4 +1,5 @@
 -- Which records may come, and what a list of records gives.
+pub use Rattle.rules.specs.Codes.{isRefusal}
 use Prim.Native.Nat.{ℕ, _+_}
 use mathlib.Core.Bool.{Bool, true, false, _&&_, _||_, cond}
 use mathlib.Core.List.{List, [], _∷_, _++_}
@@ -10,17 +11,6 @@ use Rattle.rules.specs.declared.codes.Code.the-variants.{Done, Malformed, Absen
 use Rattle.rules.specs.declared.records.Event.{Event}
 use Rattle.rules.specs.declared.records.Decoded.{Decoded}
 use Rattle.rules.specs.declared.records.Decoded.the-variants.{Well, Ill}
-
--- "A refused access (1 to 5, 7)"; 1 is a malformed record
-abbrev pub isRefusal : Code → Bool
-isRefusal Done = false
-isRefusal Malformed = true
-isRefusal Absent = true
-isRefusal Shut = true
-isRefusal NoRoom = true
-isRefusal NoBytes = true
-isRefusal BeyondLimit = false
-isRefusal TestValue = true
 
 -- is the record's event one of these? A malformed record has no event
 abbrev pub says : (Event → Bool) → Decoded → Bool
