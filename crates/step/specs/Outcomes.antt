@@ -4,10 +4,12 @@ use mathlib.Core.Bool.{Bool, cond}
 use mathlib.Core.List.{List}
 use Rattle.rules.specs.Numbers.{padded}
 use Rattle.rules.specs.State.{State}
-use Rattle.rules.specs.Chips.{chipOf}
+use mathlib.Core.Path.{_≡_}
+use Rattle.rules.specs.Chips.{view, chipOf}
+use Rattle.rules.specs.declared.chip.Chip.{Chip}
 use Rattle.rules.specs.Answers.{Stepped, answerOf, answerBytes}
 use Rattle.rules.specs.StepC.{conditions, settle, turns}
-use Rattle.rules.specs.Step.{Called}
+use Rattle.rules.specs.Step.{Called, called}
 use Rattle.rules.specs.declared.codes.Code.{Code}
 use Rattle.rules.specs.declared.codes.Code.the-variants.{Done, BeyondLimit}
 use Rattle.rules.specs.declared.registers.Registers.{Registers}
@@ -48,3 +50,8 @@ finishOf before status b beyond value =
       acks = c .acks;
       sent = c .sent;
     }
+
+-- the call: what it returns, and what it leaves in the lent buffer
+pub record IsStep (c : Chip) (bytes before buffer : List ℕ) (r : Returned) : Type 0 where
+  pub returns : r ≡ returnedOf (called (view c) bytes before)
+  pub answer : buffer ≡ called (view c) bytes before .buffer

@@ -5,7 +5,7 @@ use mathlib.Core.List.{List, [], _∷_, _++_}
 use lib.ListN.{length, take, drop}
 use Rattle.rules.specs.State.{State}
 use Rattle.rules.specs.Chips.{view, chipOf}
-use Rattle.rules.specs.Step.{after, answers}
+use Rattle.rules.specs.Step.{step, answer, after, answers}
 use Rattle.rules.specs.declared.chip.Chip.{Chip}
 use Rattle.step.specs.declared.Ran.{Ran}
 
@@ -26,6 +26,15 @@ steppedIn bytes buffer = min (recordsIn bytes) (length buffer / 16)
 abbrev pub joined : List (List ℕ) → List ℕ
 joined [] = []
 joined (l ∷ ls) = l ++ joined ls
+
+-- record i of a slice
+abbrev pub recordAt : ℕ → List ℕ → List ℕ
+recordAt i bytes = take 4 (drop (4 * i) bytes)
+
+-- one of them: the chip that record i leaves, and its answer in its place
+pub record IsTurn (c : Chip) (bytes before : List ℕ) (i : ℕ) (buffer : List ℕ) (r : Chip) : Type 0 where
+  pub chip : r ≡ chipOf ((step (view c) (recordAt i bytes)) .state)
+  pub answers : buffer ≡ (take (16 * i) before ++ answer (view c) (recordAt i bytes)) ++ drop (16 * i + 16) before
 
 -- the single steps one after another: the chip they leave, how many, and their answers with the rest of the buffer as it was
 pub record IsRun (c : Chip) (bytes before buffer : List ℕ) (r : Ran) : Type 0 where

@@ -1,20 +1,10 @@
 // The step: a chip by value, a record and a lent answer buffer; and a run of records.
-ghost use mathlib.Core.Path.{_≡_};
-ghost use Prim.Native.Nat.{_+_, _*_, _≤_};
-ghost use mathlib.Core.List.{_++_};
-ghost use lib.ListN.{length, take, drop};
-ghost use Rattle.rules.specs.State.{powerReset};
-ghost use Rattle.rules.specs.Chips.{view, chipOf};
-ghost use Rattle.rules.specs.Ranges.{Tidy};
-ghost use Rattle.rules.specs.Codes.{accessCode, isDone};
-ghost use Rattle.rules.specs.Events.{ticksOf};
-ghost use Rattle.rules.specs.Step.{refused, done, access, stepEvent, stepDecoded, step, called};
-ghost use Rattle.rules.specs.declared.codes.Code.the-variants.{Done};
-ghost use Rattle.step.specs.Outcomes.{outcomeOf, returnedOf};
-ghost use Rattle.step.specs.Runs.{IsRun};
+ghost use Rattle.step.specs.Outcomes.{IsStep};
 
+pub mod answers;
 pub mod event;
 pub mod reset;
+pub mod run;
 
 use rules::chip::Chip;
 use rules::codes::Code;
@@ -29,4 +19,26 @@ pub struct Returned {
 pub struct Ran {
     pub chip: Chip,
     pub count: usize,
+}
+
+// One record: any chip value, any record, any buffer. A buffer not of 16 bytes is left as it was, with code 1.
+pub fn step(c: Chip, bytes: &[u8], answer: &mut [u8]) -> Returned
+    ensures { λ r. ⌜ IsStep c (now (bytes .entry)) (now (answer .entry)) (now (answer .exit)) r ⌝ }
+{
+    let tidy = reset::tidied(c);
+    if answer.len() == 16 {
+        let o = event::stepped(tidy, bytes);
+        let b = answers::answered(o);
+        answers::store_at(b, answer, 0);
+        let chip = o.chip;
+        let code = o.code;
+        return Returned {
+            chip: chip,
+            code: code,
+        };
+    }
+    Returned {
+        chip: tidy,
+        code: Code::Malformed,
+    }
 }

@@ -2,7 +2,8 @@
 ghost use mathlib.Core.Path.{_≡_};
 ghost use Prim.Native.Nat.{min};
 ghost use Rattle.rules.specs.State.{released, registersReset, statusReset, latchesReset, powerReset};
-ghost use Rattle.rules.specs.Chips.{pathView, pathOf, registersView, stackView, view, chipOf};
+ghost use Rattle.rules.specs.Chips.{pathOf, registersView, chipOf};
+ghost use Rattle.step.specs.Entry.{PathEntered, StackEntered, Entered};
 use rules::chip::Chip;
 use rules::chip::DataPath;
 use rules::chip::Latches;
@@ -137,7 +138,7 @@ fn at_most_8(n: u8) -> u8
 }
 
 fn path_tidied(p: DataPath) -> DataPath
-    ensures { λ r. ⌜ r ≡ pathOf (pathView p) ⌝ }
+    ensures { λ r. ⌜ PathEntered p r ⌝ }
 {
     let host = p.host;
     let held = fifos::host::tidied(host);
@@ -170,7 +171,7 @@ fn registers_tidied(r: Registers) -> Registers
 }
 
 fn stack_tidied(k: Stack) -> Stack
-    ensures { λ n. ⌜ n ≡ stackView k ⌝ }
+    ensures { λ n. ⌜ StackEntered k n ⌝ }
 {
     let mut n = k;
     n.pointer = k.pointer % 32;
@@ -179,7 +180,7 @@ fn stack_tidied(k: Stack) -> Stack
 
 // Any chip value in the one form that functions return: counts cut to the size, numbers brought into range.
 pub fn tidied(c: Chip) -> Chip
-    ensures { λ r. ⌜ r ≡ chipOf (view c) ⌝ }
+    ensures { λ r. ⌜ Entered c r ⌝ }
 {
     let registers = c.registers;
     let stored = registers_tidied(registers);

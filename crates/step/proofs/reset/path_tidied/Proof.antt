@@ -1,3 +1,4 @@
+use Rattle.step.proofs.Tidied.{path-fits}
 use Rattle.rules.specs.Chips.{pathOf, pathView}
 use borrow.Author.Needs.{needs}
 use Rattle.step.proofs.reset.path_tidied.Statement.{statement}
@@ -14,7 +15,7 @@ at-most-8-requires c κs = search needs
 
 returns : tie.Need-returns
 unfolding pathOf pathView
-returns c = rw (c .before .at-most-8 .ensures, c .before .before .tidied2 .ensures, c .before .before .before .before .tidied .ensures)
+returns c = record { packed = rw (c .before .at-most-8 .ensures, c .before .before .tidied2 .ensures, c .before .before .before .before .tidied .ensures); range = path-fits (c .before .before .before .before .before .before .args .p) (search needs) (search needs) }
 
 pub path-tidied-spec : {M : Type 1} → statement M
 path-tidied-spec =

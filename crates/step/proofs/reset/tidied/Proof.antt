@@ -1,3 +1,4 @@
+use Rattle.step.proofs.Tidied.{view-fits}
 use Rattle.rules.specs.Chips.{chipOf, view}
 use borrow.Author.Needs.{needs}
 use Rattle.step.proofs.reset.tidied.Statement.{statement}
@@ -17,7 +18,7 @@ at-most-8-requires c κs = search needs
 
 returns : tie.Need-returns
 unfolding chipOf view
-returns c = rw (c .before .at-most-8 .ensures, c .before .before .stack-tidied .ensures, c .before .before .before .before .path-tidied .ensures, c .before .before .before .before .before .before .registers-tidied .ensures)
+returns c = record { packed = rw (c .before .at-most-8 .ensures, c .before .before .stack-tidied .ensures .packed, c .before .before .before .before .path-tidied .ensures .packed, c .before .before .before .before .before .before .registers-tidied .ensures); range = view-fits (c .before .before .before .before .before .before .before .before .args .c) (c .before .before .before .before .path-tidied .ensures .range) (c .before .before .stack-tidied .ensures .range) }
 
 pub tidied-spec : {M : Type 1} → statement M
 tidied-spec =
