@@ -1,0 +1,171 @@
+// Stored records and answers, run again on the proved step and compared.
+// A line "= name" starts a stream from power reset; a record in hex, a space and its answer in hex is an event;
+// what follows a second space, a line that starts with # and an empty line are comments.
+ghost use mathlib.Core.Path.{_≡_};
+ghost use lib.ListN.{length};
+use libc::STDOUT_FILENO;
+use rules::chip::Chip;
+use step::reset::power_reset;
+
+mod words;
+
+use words::next;
+use words::record_of;
+use words::word_end;
+
+// Where a comparison stands.
+struct Tally {
+    chip: Chip,
+    line: u64,
+    streams: u64,
+    events: u64,
+    agreed: u64,
+}
+
+fn one_more(n: u64) -> u64 {
+    std::num::wrapping_add_u64(n, 1)
+}
+
+fn say(text: &[u8]) {
+    io::write_all(STDOUT_FILENO, text);
+}
+
+fn say_line(line: u64) {
+    say(b"line ");
+    io::print_decimal(STDOUT_FILENO, line);
+    say(b": ");
+}
+
+fn say_difference(line: u64, named: &[u8], stored: &[u8], came: &[u8]) {
+    say_line(line);
+    say(named);
+    say(b" stored ");
+    say(stored);
+    say(b" came ");
+    say(came);
+    say(b"\n");
+}
+
+fn say_unreadable(t: Tally) -> Tally {
+    say_line(t.line);
+    say(b"cannot be read\n");
+    t
+}
+
+// A stream starts from power reset.
+fn stream(t: Tally) -> Tally {
+    let chip = power_reset();
+    let mut n = t;
+    n.chip = chip;
+    n.streams = one_more(t.streams);
+    n
+}
+
+fn counted(t: Tally, chip: Chip, is_same: bool) -> Tally {
+    let mut n = t;
+    n.chip = chip;
+    n.events = one_more(t.events);
+    if is_same {
+        n.agreed = one_more(t.agreed);
+    }
+    n
+}
+
+fn printed(answer: [u8; 16]) -> [u8; 33]
+    ensures { λ r. ⌜ 33 ≡ length r ⌝ }
+{
+    let mut text = [0u8; 33];
+    lines::print(&answer, &mut text);
+    text
+}
+
+// One record on the chip; its answer is compared as it prints.
+fn event(t: Tally, bytes: &[u8], named: &[u8], stored: &[u8]) -> Tally {
+    let mut answer = [0u8; 16];
+    let chip = t.chip;
+    let ran = step::run::run(chip, bytes, &mut answer);
+    let came = printed(answer);
+    let is_same = check::same(stored, &came[..32]);
+    if !is_same {
+        say_difference(t.line, named, stored, &came[..32]);
+    }
+    let after = ran.chip;
+    counted(t, after, is_same)
+}
+
+// A record, a space and its answer.
+fn event_line(t: Tally, text: &[u8]) -> Tally {
+    let end = word_end(text, 0);
+    let named = record_of(&text[..end]);
+    let count = named.count;
+    let bytes = named.bytes;
+    if count == 0 {
+        return say_unreadable(t);
+    }
+    let from = next(text, end);
+    let stop = word_end(text, from);
+    event(t, &bytes[..count], &text[..end], &text[from..stop])
+}
+
+fn line(t: Tally, text: &[u8]) -> Tally {
+    if text.len() == 0 {
+        return t;
+    }
+    let first = text[0];
+    match first {
+        b'#' => t,
+        b'=' => stream(t),
+        _ => event_line(t, text),
+    }
+}
+
+fn numbered(t: Tally) -> Tally {
+    let mut n = t;
+    n.line = one_more(t.line);
+    n
+}
+
+// Every line of a text.
+fn compared(text: &[u8]) -> Tally {
+    let chip = power_reset();
+    let mut t = Tally {
+        chip: chip,
+        line: 0,
+        streams: 0,
+        events: 0,
+        agreed: 0,
+    };
+    let mut at: usize = 0;
+    while at < text.len() {
+        let end = words::line_end(text, at);
+        t = line(numbered(t), &text[at..end]);
+        at = next(text, end);
+    }
+    t
+}
+
+fn say_end(t: Tally) {
+    io::print_decimal(STDOUT_FILENO, t.agreed);
+    say(b" of ");
+    io::print_decimal(STDOUT_FILENO, t.events);
+    say(b" events in ");
+    io::print_decimal(STDOUT_FILENO, t.streams);
+    say(b" streams agree\n");
+}
+
+// Room for a MiB.
+fn room() -> [u8; 1048576]
+    ensures { λ r. ⌜ 1048576 ≡ length r ⌝ }
+{
+    [0; 1048576]
+}
+
+// Standard input, below a MiB, compared; each difference and the count of all on standard output.
+pub fn run() {
+    let mut input = room();
+    let n = io::read_full(0, &mut input);
+    if n == 1048576 {
+        say(b"the input is too long\n");
+    }
+    say_end(compared(&input[..n]));
+}
