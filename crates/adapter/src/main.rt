@@ -1,6 +1,15 @@
 // Event records on standard input as raw bytes, and a line of hex digits for each answer on standard output.
+ghost use mathlib.Core.Path.{_≡_};
 ghost use Prim.Native.Nat.{_≤_};
+ghost use lib.ListN.{length};
+ghost use Rattle.adapter.specs.Texts.{IsPrinted};
 use rules::chip::Chip;
+
+// The chip after some records, and the number of bytes of their lines.
+pub struct Printed {
+    pub chip: Chip,
+    pub size: usize,
+}
 
 // What a turn leaves for the next: the chip, the bytes of a record not yet whole, and whether to go on.
 pub struct Turned {
@@ -10,9 +19,27 @@ pub struct Turned {
     pub more: bool,
 }
 
-// The byte at a place, 0 past the end.
-fn byte_at(bytes: &[u8], at: usize) -> u8 {
-    if at < bytes.len() { bytes[at] } else { 0 }
+// The lines of the answers to the records, at the front of text.
+fn print(c: Chip, records: &[u8], text: &mut [u8]) -> Printed
+    ensures { λ r. ⌜ IsPrinted c (now (records .entry)) (now (text .entry)) (now (text .exit)) r ⌝ }
+{
+    let mut answers = [0u8; 16400];
+    let ran = step::run::run(c, records, &mut answers);
+    let size = lines::print(&answers[..16 * ran.count], text);
+    let chip = ran.chip;
+    Printed {
+        chip: chip,
+        size: size,
+    }
+}
+
+// One read behind the bytes kept; how many bytes are then held.
+fn receive(input: &mut [u8], kept: usize) -> usize
+    requires { ⌜ kept ≤ length (now input) ⌝ }
+    ensures { λ r. ⌜ r ≤ length (now (input .exit)) ⌝ }
+{
+    let got = libc::read(0, &mut input[kept..]);
+    kept + io::count(got, &input[kept..])
 }
 
 // The bytes that are no whole record; at the end of the input none is left, since the last piece is a record.
@@ -22,7 +49,22 @@ fn left_over(held: usize, is_end: bool) -> usize
     if is_end { 0 } else { held % 4 }
 }
 
-// One read behind the bytes left over, so that answers come as soon as their records do.
+// The byte at a place, 0 past the end.
+fn byte_at(bytes: &[u8], at: usize) -> u8 {
+    if at < bytes.len() { bytes[at] } else { 0 }
+}
+
+// The bytes from a place on, as many as can be left over.
+fn tail(bytes: &[u8], from: usize) -> [u8; 4]
+    requires { ⌜ from ≤ length (now bytes) ⌝ }
+{
+    let first = byte_at(bytes, from);
+    let second = byte_at(bytes, from + 1);
+    let third = byte_at(bytes, from + 2);
+    [first, second, third, 0]
+}
+
+// One read, so that answers come as soon as their records do.
 fn turn(c: Chip, left: [u8; 4], kept: usize) -> Turned
     requires { ⌜ kept ≤ 3 ⌝ }
     ensures { λ r. ⌜ r .kept ≤ 3 ⌝ }
@@ -31,23 +73,20 @@ fn turn(c: Chip, left: [u8; 4], kept: usize) -> Turned
     input[0] = left[0];
     input[1] = left[1];
     input[2] = left[2];
-    let got = libc::read(0, &mut input[kept..]);
-    let n = io::count(got, &input[kept..]);
-    let held = kept + n;
-    let rest = left_over(held, n == 0);
+    let held = receive(&mut input, kept);
+    let is_end = held == kept;
+    let rest = left_over(held, is_end);
     let end = held - rest;
-    let mut answers = [0u8; 16400];
-    let ran = step::run::run(c, &input[..end], &mut answers);
     let mut text = [0u8; 33825];
-    let size = lines::print(&answers[..16 * ran.count], &mut text);
-    let is_written = io::write_all(1, &text[..size]);
-    let left = [byte_at(&input, end), byte_at(&input, end + 1), byte_at(&input, end + 2), 0];
-    let chip = ran.chip;
+    let p = print(c, &input[..end], &mut text);
+    let is_written = io::write_all(1, &text[..p.size]);
+    let left = tail(&input, end);
+    let chip = p.chip;
     Turned {
         chip: chip,
         left: left,
         kept: rest,
-        more: is_written && n > 0,
+        more: is_written & !is_end,
     }
 }
 
