@@ -1,0 +1,107 @@
+// Event records on standard input as raw bytes, and a line of hex digits for each answer on standard output.
+ghost use mathlib.Core.Path.{_≡_};
+ghost use Prim.Native.Nat.{_≤_};
+ghost use lib.ListN.{length};
+ghost use Rattle.adapter.specs.Texts.{IsPrinted};
+use rules::chip::Chip;
+
+// The chip after some records, and the number of bytes of their lines.
+pub struct Printed {
+    pub chip: Chip,
+    pub size: usize,
+}
+
+// What a turn leaves for the next: the chip, the bytes of a record not yet whole, and whether to go on.
+pub struct Turned {
+    pub chip: Chip,
+    pub left: [u8; 4],
+    pub kept: usize,
+    pub more: bool,
+}
+
+// The lines of the answers to the records, at the front of text.
+fn print(c: Chip, records: &[u8], text: &mut [u8]) -> Printed
+    ensures { λ r. ⌜ IsPrinted c (now (records .entry)) (now (text .entry)) (now (text .exit)) r ⌝ }
+{
+    let mut answers = [0u8; 16400];
+    let ran = step::run::run(c, records, &mut answers);
+    let size = lines::print(&answers[..16 * ran.count], text);
+    let chip = ran.chip;
+    Printed {
+        chip: chip,
+        size: size,
+    }
+}
+
+// One read behind the bytes kept; how many bytes are then held.
+fn receive(input: &mut [u8], kept: usize) -> usize
+    requires { ⌜ kept ≤ length (now input) ⌝ }
+    ensures { λ r. ⌜ r ≤ length (now (input .exit)) ⌝ }
+{
+    let got = libc::read(0, &mut input[kept..]);
+    kept + io::count(got, &input[kept..])
+}
+
+// The bytes that are no whole record; at the end of the input none is left, since the last piece is a record.
+fn left_over(held: usize, is_end: bool) -> usize
+    ensures { λ r. ⌜ (r ≤ 3) × (r ≤ held) ⌝ }
+{
+    if is_end { 0 } else { held % 4 }
+}
+
+// The byte at a place, 0 past the end.
+fn byte_at(bytes: &[u8], at: usize) -> u8 {
+    if at < bytes.len() { bytes[at] } else { 0 }
+}
+
+// The bytes from a place on, as many as can be left over.
+fn tail(bytes: &[u8], from: usize) -> [u8; 4]
+    requires { ⌜ from ≤ length (now bytes) ⌝ }
+{
+    let first = byte_at(bytes, from);
+    let second = byte_at(bytes, from + 1);
+    let third = byte_at(bytes, from + 2);
+    [first, second, third, 0]
+}
+
+// One read, so that answers come as soon as their records do.
+fn turn(c: Chip, left: [u8; 4], kept: usize) -> Turned
+    requires { ⌜ kept ≤ 3 ⌝ }
+    ensures { λ r. ⌜ r .kept ≤ 3 ⌝ }
+{
+    let mut input = [0u8; 4100];
+    input[0] = left[0];
+    input[1] = left[1];
+    input[2] = left[2];
+    let held = receive(&mut input, kept);
+    let is_end = held == kept;
+    let rest = left_over(held, is_end);
+    let end = held - rest;
+    let mut text = [0u8; 33825];
+    let p = print(c, &input[..end], &mut text);
+    let is_written = io::write_all(1, &text[..p.size]);
+    let left = tail(&input, end);
+    let chip = p.chip;
+    Turned {
+        chip: chip,
+        left: left,
+        kept: rest,
+        more: is_written & !is_end,
+    }
+}
+
+fn main() {
+    let mut chip = step::reset::power_reset();
+    let mut left = [0u8; 4];
+    let mut kept = 0usize;
+    let mut turns = u64::MAX;
+    let mut more = true;
+    while turns > 0 && more {
+        let t = turn(chip, left, kept);
+        chip = t.chip;
+        left = t.left;
+        kept = t.kept;
+        more = t.more;
+        turns -= 1;
+    }
+}
