@@ -9,6 +9,7 @@ use step::reset::power_reset;
 
 mod words;
 
+use words::line_end;
 use words::next;
 use words::record_of;
 use words::word_end;
@@ -137,7 +138,7 @@ fn compared(text: &[u8]) -> Tally {
     };
     let mut at: usize = 0;
     while at < text.len() {
-        let end = words::line_end(text, at);
+        let end = line_end(text, at);
         t = line(numbered(t), &text[at..end]);
         at = next(text, end);
     }
