@@ -11,6 +11,12 @@ pub struct Printed {
     pub size: usize,
 }
 
+// What one read leaves: how many bytes are held, and whether the input is at its end.
+pub struct Received {
+    pub held: usize,
+    pub is_end: bool,
+}
+
 // What a turn leaves for the next: the chip, the bytes of a record not yet whole, and whether to go on.
 pub struct Turned {
     pub chip: Chip,
@@ -33,13 +39,35 @@ fn print(c: Chip, records: &[u8], text: &mut [u8]) -> Printed
     }
 }
 
-// One read behind the bytes kept; how many bytes are then held.
-fn receive(input: &mut [u8], kept: usize) -> usize
+// A failed read: its message, and nothing held, since the bytes kept are no record before the end of the input.
+fn read_failed() -> Received
+    ensures { λ r. ⌜ r .held ≡ 0 ⌝ }
+{
+    io::write_all(
+        2,
+        b"adapter: the input could not be read; the answers are not complete\n",
+    );
+    Received {
+        held: 0,
+        is_end: true,
+    }
+}
+
+// One read behind the bytes kept.
+fn receive(input: &mut [u8], kept: usize) -> Received
     requires { ⌜ kept ≤ length (now input) ⌝ }
-    ensures { λ r. ⌜ r ≤ length (now (input .exit)) ⌝ }
+    ensures { λ r. ⌜ r .held ≤ length (now (input .exit)) ⌝ }
 {
     let got = libc::read(0, &mut input[kept..]);
-    kept + io::count(got, &input[kept..])
+    if got < 0 {
+        read_failed()
+    } else {
+        let more = io::count(got, &input[kept..]);
+        Received {
+            held: kept + more,
+            is_end: more == 0,
+        }
+    }
 }
 
 // The bytes that are no whole record; at the end of the input none is left, since the last piece is a record.
@@ -64,6 +92,18 @@ fn tail(bytes: &[u8], from: usize) -> [u8; 4]
     [first, second, third, 0]
 }
 
+// Writes the lines. A closed pipe ends the program within the write, so a message comes only where the output is at fault.
+fn send(lines: &[u8]) -> bool {
+    let is_written = io::write_all(1, lines);
+    if !is_written {
+        io::write_all(
+            2,
+            b"adapter: the output could not be written; the answers are not complete\n",
+        );
+    }
+    is_written
+}
+
 // One read, so that answers come as soon as their records do.
 fn turn(c: Chip, left: [u8; 4], kept: usize) -> Turned
     requires { ⌜ kept ≤ 3 ⌝ }
@@ -73,13 +113,14 @@ fn turn(c: Chip, left: [u8; 4], kept: usize) -> Turned
     input[0] = left[0];
     input[1] = left[1];
     input[2] = left[2];
-    let held = receive(&mut input, kept);
-    let is_end = held == kept;
+    let received = receive(&mut input, kept);
+    let is_end = received.is_end;
+    let held = received.held;
     let rest = left_over(held, is_end);
     let end = held - rest;
     let mut text = [0u8; 33825];
     let p = print(c, &input[..end], &mut text);
-    let is_written = io::write_all(1, &text[..p.size]);
+    let is_written = send(&text[..p.size]);
     let left = tail(&input, end);
     let chip = p.chip;
     Turned {

@@ -10,8 +10,8 @@ slice-aggregate-print : tie.Need-slice-aggregate-print
 slice-aggregate-print c = sym (length-take-le _ _ (omega (arith, c .before .before .before .receive .ensures)))
 
 -- the lines are within the text
-slice-aggregate-write-all : tie.Need-slice-aggregate-write-all
-slice-aggregate-write-all c =
+slice-aggregate-send : tie.Need-slice-aggregate-send
+slice-aggregate-send c =
     let print = c .before .before .print in
     sym (length-take-le _ _ (omega (arith, print .ensures .size, print .kept .1 .1 .0)))
 
@@ -34,7 +34,7 @@ turn-spec =
     (λ c. search needs)
     (λ c κs. search needs)
     (λ c. search needs)
-    slice-aggregate-write-all
+    slice-aggregate-send
     (λ c κs. search needs)
     (λ c. search needs)
     (λ c κs. search needs)
