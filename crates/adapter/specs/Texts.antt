@@ -1,14 +1,16 @@
--- The lines that records give: what the program prints between a read and a write.
-use Prim.Native.Nat.{ℕ, _*_, _/_, min}
+-- The lines that records give, and the bytes that wait for the next read: what the program does between a read and a write.
+use Prim.Native.Nat.{ℕ, _+_, _*_, _/_, _%_, _≤_, _<_, min}
 use mathlib.Core.Path.{_≡_}
-use mathlib.Core.List.{List, _++_}
-use lib.ListN.{length, drop}
+use mathlib.Core.Bool.{Bool, true, false, cond}
+use mathlib.Core.List.{List, [], _∷_, _++_}
+use lib.ListN.{length, take, drop, getD}
 use Rattle.rules.specs.Chips.{view, chipOf}
 use Rattle.rules.specs.Step.{after, answers}
 use Rattle.rules.specs.declared.chip.Chip.{Chip}
 use Rattle.lines.specs.Hex.{linesOf}
 use Rattle.step.specs.Runs.{recordsOf, recordsIn, joined}
 use Rattle.adapter.specs.declared.Printed.{Printed}
+use Rattle.adapter.specs.declared.Received.{Received}
 
 -- how many records are stepped, and how many of their answers have room for a line
 abbrev pub stepped : List ℕ → ℕ
@@ -21,3 +23,22 @@ pub record IsPrinted (c : Chip) (bytes before now : List ℕ) (r : Printed) : Ty
   pub chip : r .chip ≡ chipOf (after (view c) (recordsOf (stepped bytes) bytes))
   pub size : r .size ≡ 33 * printed bytes before
   pub text : now ≡ linesOf (printed bytes before) (joined (answers (view c) (recordsOf (stepped bytes) bytes))) ++ drop (r .size) before
+
+-- how many bytes of those held wait for the next read: the piece of a record, and none at the end, where it is a record
+abbrev pub leftOver : ℕ → Bool → ℕ
+leftOver held isEnd = cond isEnd 0 (held % 4)
+
+-- the bytes that can wait: three from a place on, 0 past the end, and a fourth that is always 0
+abbrev pub tailFrom : List ℕ → ℕ → List ℕ
+tailFrom bytes from = getD bytes from 0 ∷ getD bytes (from + 1) 0 ∷ getD bytes (from + 2) 0 ∷ 0 ∷ []
+
+-- what a failed read leaves: nothing held, and no further read
+abbrev pub nothing : Received
+nothing = record { held = 0; «is_end» = true }
+
+-- the bytes kept stay in front, those held have room, and a new one is among them exactly before the end
+pub record IsReceived (kept : ℕ) (before now : List ℕ) (r : Received) : Type 0 where
+  pub front : take kept now ≡ take kept before
+  pub held : r .held ≤ length now
+  pub grown : r .«is_end» ≡ false → kept < r .held
+  pub ended : r .«is_end» ≡ true → r .held ≤ kept

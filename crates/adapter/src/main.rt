@@ -1,8 +1,8 @@
 // Event records on standard input as raw bytes, and a line of hex digits for each answer on standard output.
 ghost use mathlib.Core.Path.{_≡_};
 ghost use Prim.Native.Nat.{_≤_};
-ghost use lib.ListN.{length};
-ghost use Rattle.adapter.specs.Texts.{IsPrinted};
+ghost use lib.ListN.{length, getD};
+ghost use Rattle.adapter.specs.Texts.{IsPrinted, IsReceived, leftOver, nothing, tailFrom};
 use rules::chip::Chip;
 
 // The chip after some records, and the number of bytes of their lines.
@@ -41,7 +41,7 @@ fn print(c: Chip, records: &[u8], text: &mut [u8]) -> Printed
 
 // A failed read: its message, and nothing held, since the bytes kept are no record before the end of the input.
 fn read_failed() -> Received
-    ensures { λ r. ⌜ r .held ≡ 0 ⌝ }
+    ensures { λ r. ⌜ r ≡ nothing ⌝ }
 {
     io::write_all(
         2,
@@ -56,7 +56,7 @@ fn read_failed() -> Received
 // One read behind the bytes kept.
 fn receive(input: &mut [u8], kept: usize) -> Received
     requires { ⌜ kept ≤ length (now input) ⌝ }
-    ensures { λ r. ⌜ r .held ≤ length (now (input .exit)) ⌝ }
+    ensures { λ r. ⌜ IsReceived kept (now (input .entry)) (now (input .exit)) r ⌝ }
 {
     let got = libc::read(0, &mut input[kept..]);
     if got < 0 {
@@ -72,19 +72,22 @@ fn receive(input: &mut [u8], kept: usize) -> Received
 
 // The bytes that are no whole record; at the end of the input none is left, since the last piece is a record.
 fn left_over(held: usize, is_end: bool) -> usize
-    ensures { λ r. ⌜ (r ≤ 3) × (r ≤ held) ⌝ }
+    ensures { λ r. ⌜ r ≡ leftOver held «is_end» ⌝ }
 {
     if is_end { 0 } else { held % 4 }
 }
 
 // The byte at a place, 0 past the end.
-fn byte_at(bytes: &[u8], at: usize) -> u8 {
+fn byte_at(bytes: &[u8], at: usize) -> u8
+    ensures { λ r. ⌜ r ≡ getD (now (bytes .entry)) at 0 ⌝ }
+{
     if at < bytes.len() { bytes[at] } else { 0 }
 }
 
 // The bytes from a place on, as many as can be left over.
 fn tail(bytes: &[u8], from: usize) -> [u8; 4]
     requires { ⌜ from ≤ length (now bytes) ⌝ }
+    ensures { λ r. ⌜ r ≡ tailFrom (now (bytes .entry)) from ⌝ }
 {
     let first = byte_at(bytes, from);
     let second = byte_at(bytes, from + 1);
