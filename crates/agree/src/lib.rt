@@ -2,7 +2,10 @@
 // A line "= name" starts a stream from power reset; a record in hex, a space and its answer in hex is an event;
 // what follows a second space, a line that starts with # and an empty line are comments.
 ghost use mathlib.Core.Path.{_≡_};
+ghost use mathlib.Core.Bool.{cond};
 ghost use lib.ListN.{length};
+ghost use Rattle.lines.specs.Hex.{lineOf};
+ghost use Rattle.agree.specs.Tallies.{oneMore, nothingYet, nextLine, afterStream, withEvent, afterEvent, afterEventLine, afterLine, tallyOf};
 use libc::STDOUT_FILENO;
 use rules::chip::Chip;
 use step::reset::power_reset;
@@ -23,7 +26,9 @@ struct Tally {
     agreed: u64,
 }
 
-fn one_more(n: u64) -> u64 {
+fn one_more(n: u64) -> u64
+    ensures { λ r. ⌜ r ≡ oneMore n ⌝ }
+{
     std::num::wrapping_add_u64(n, 1)
 }
 
@@ -47,14 +52,15 @@ fn say_difference(line: u64, named: &[u8], stored: &[u8], came: &[u8]) {
     say(b"\n");
 }
 
-fn say_unreadable(t: Tally) -> Tally {
-    say_line(t.line);
+fn say_unreadable(line: u64) {
+    say_line(line);
     say(b"cannot be read\n");
-    t
 }
 
 // A stream starts from power reset.
-fn stream(t: Tally) -> Tally {
+fn stream(t: Tally) -> Tally
+    ensures { λ r. ⌜ r ≡ afterStream t ⌝ }
+{
     let chip = power_reset();
     let mut n = t;
     n.chip = chip;
@@ -62,53 +68,69 @@ fn stream(t: Tally) -> Tally {
     n
 }
 
-fn counted(t: Tally, chip: Chip, is_same: bool) -> Tally {
+fn one_more_if(agrees: bool, n: u64) -> u64
+    ensures { λ r. ⌜ r ≡ cond agrees (oneMore n) n ⌝ }
+{
+    if agrees { one_more(n) } else { n }
+}
+
+// An event's chip, counted, and once more where it agrees.
+fn with_event(t: Tally, chip: Chip, agrees: bool) -> Tally
+    ensures { λ r. ⌜ r ≡ withEvent t chip agrees ⌝ }
+{
     let mut n = t;
     n.chip = chip;
     n.events = one_more(t.events);
-    if is_same {
-        n.agreed = one_more(t.agreed);
-    }
+    n.agreed = one_more_if(agrees, t.agreed);
     n
 }
 
-fn printed(answer: [u8; 16]) -> [u8; 33]
-    ensures { λ r. ⌜ 33 ≡ length r ⌝ }
+// An answer's digits and a line end.
+fn printed(answer: &[u8; 16]) -> [u8; 33]
+    ensures { λ r. ⌜ r ≡ lineOf (now (answer .entry)) ⌝ }
 {
     let mut text = [0u8; 33];
-    lines::print(&answer, &mut text);
+    lines::print(answer, &mut text);
     text
 }
 
 // One record on the chip; its answer is compared as it prints.
-fn event(t: Tally, bytes: &[u8], named: &[u8], stored: &[u8]) -> Tally {
+fn event(t: Tally, bytes: &[u8], named: &[u8], stored: &[u8]) -> Tally
+    ensures { λ r. ⌜ r ≡ afterEvent t (now (bytes .entry)) (now (stored .entry)) ⌝ }
+{
     let mut answer = [0u8; 16];
     let chip = t.chip;
-    let ran = step::run::run(chip, bytes, &mut answer);
-    let came = printed(answer);
+    let returned = step::step(chip, bytes, &mut answer);
+    let came = printed(&answer);
     let is_same = check::same(stored, &came[..32]);
     if !is_same {
         say_difference(t.line, named, stored, &came[..32]);
     }
-    let after = ran.chip;
-    counted(t, after, is_same)
+    let after = returned.chip;
+    with_event(t, after, is_same)
 }
 
 // A record, a space and its answer.
-fn event_line(t: Tally, text: &[u8]) -> Tally {
-    let end = word_end(text, 0);
+fn event_line(t: Tally, text: &[u8]) -> Tally
+    ensures { λ r. ⌜ r ≡ afterEventLine t (now (text .entry)) ⌝ }
+{
+    let end = word_end(text);
     let named = record_of(&text[..end]);
     let count = named.count;
     let bytes = named.bytes;
     if count == 0 {
-        return say_unreadable(t);
+        say_unreadable(t.line);
+        return t;
     }
     let from = next(text, end);
-    let stop = word_end(text, from);
-    event(t, &bytes[..count], &text[..end], &text[from..stop])
+    let rest = &text[from..];
+    let stop = word_end(rest);
+    event(t, &bytes[..count], &text[..end], &rest[..stop])
 }
 
-fn line(t: Tally, text: &[u8]) -> Tally {
+fn line(t: Tally, text: &[u8]) -> Tally
+    ensures { λ r. ⌜ r ≡ afterLine t (now (text .entry)) ⌝ }
+{
     if text.len() == 0 {
         return t;
     }
@@ -120,27 +142,38 @@ fn line(t: Tally, text: &[u8]) -> Tally {
     }
 }
 
-fn numbered(t: Tally) -> Tally {
+fn next_line(t: Tally) -> Tally
+    ensures { λ r. ⌜ r ≡ nextLine t ⌝ }
+{
     let mut n = t;
     n.line = one_more(t.line);
     n
 }
 
-// Every line of a text.
-fn compared(text: &[u8]) -> Tally {
+fn nothing_yet() -> Tally
+    ensures { λ r. ⌜ r ≡ nothingYet ⌝ }
+{
     let chip = power_reset();
-    let mut t = Tally {
+    Tally {
         chip: chip,
         line: 0,
         streams: 0,
         events: 0,
         agreed: 0,
-    };
+    }
+}
+
+// Every line of a text.
+fn compared(text: &[u8]) -> Tally
+    ensures { λ r. ⌜ r ≡ tallyOf (now (text .entry)) ⌝ }
+{
+    let mut t = nothing_yet();
     let mut at: usize = 0;
     while at < text.len() {
-        let end = line_end(text, at);
-        t = line(numbered(t), &text[at..end]);
-        at = next(text, end);
+        let rest = &text[at..];
+        let end = line_end(rest);
+        t = line(next_line(t), &rest[..end]);
+        at += next(rest, end);
     }
     t
 }

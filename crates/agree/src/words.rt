@@ -1,15 +1,12 @@
 // Words of a line, and the bytes that hex digits name.
 ghost use mathlib.Core.Path.{_≡_};
-ghost use Prim.Native.Nat.{_+_, _≤_, min};
-ghost use lib.ListN.{length};
+ghost use Rattle.agree.specs.Words.{placeOf, lineEnd, wordEnd, past, digitValue, isHex, isRecord, digitAt, byteAt, recordNamed};
 
-// The first place from `at` on that holds the byte, or the end.
-fn find(text: &[u8], at: usize, byte: u8) -> usize
-    requires { ⌜ at ≤ length (now text) ⌝ }
-    ensures { λ r. ⌜ at ≤ r ⌝ }
-    ensures { λ r. ⌜ r ≤ length (now (text .entry)) ⌝ }
+// How many bytes stand before the first that is `byte`; all where none is.
+fn place_of(text: &[u8], byte: u8) -> usize
+    ensures { λ r. ⌜ r ≡ placeOf byte (now (text .entry)) ⌝ }
 {
-    let mut i = at;
+    let mut i: usize = 0;
     while i < text.len() {
         if text[i] == byte {
             return i;
@@ -19,48 +16,77 @@ fn find(text: &[u8], at: usize, byte: u8) -> usize
     i
 }
 
-pub fn line_end(text: &[u8], at: usize) -> usize
-    requires { ⌜ at ≤ length (now text) ⌝ }
-    ensures { λ r. ⌜ at ≤ r ⌝ }
-    ensures { λ r. ⌜ r ≤ length (now (text .entry)) ⌝ }
+// Where the first line ends.
+pub fn line_end(text: &[u8]) -> usize
+    ensures { λ r. ⌜ r ≡ lineEnd (now (text .entry)) ⌝ }
 {
-    find(text, at, 10)
+    place_of(text, 10)
 }
 
-pub fn word_end(text: &[u8], at: usize) -> usize
-    requires { ⌜ at ≤ length (now text) ⌝ }
-    ensures { λ r. ⌜ at ≤ r ⌝ }
-    ensures { λ r. ⌜ r ≤ length (now (text .entry)) ⌝ }
+// Where the first word ends.
+pub fn word_end(text: &[u8]) -> usize
+    ensures { λ r. ⌜ r ≡ wordEnd (now (text .entry)) ⌝ }
 {
-    find(text, at, 32)
+    place_of(text, 32)
 }
 
 // Past the byte that ended a line or a word.
 pub fn next(text: &[u8], end: usize) -> usize
-    requires { ⌜ end ≤ length (now text) ⌝ }
-    ensures { λ r. ⌜ r ≡ min (end + 1) (length (now (text .entry))) ⌝ }
+    ensures { λ r. ⌜ r ≡ past end (now (text .entry)) ⌝ }
 {
-    if end < text.len() { end + 1 } else { end }
-}
-
-// The value of a hex digit, or 16.
-fn digit_value(b: u8) -> u16
-    ensures { λ r. ⌜ r ≤ 16 ⌝ }
-{
-    match b {
-        48..=57 => b as u16 - 48,
-        65..=70 => b as u16 - 55,
-        _ => 16,
+    if end < text.len() {
+        end + 1
+    } else {
+        text.len()
     }
 }
 
-// The byte of two hex digits, or 256.
-fn pair_value(high: u8, low: u8) -> u16
-    ensures { λ r. ⌜ r ≤ 256 ⌝ }
+// The value of a hex digit, or 16.
+fn digit_value(b: u8) -> usize
+    ensures { λ r. ⌜ r ≡ digitValue b ⌝ }
 {
-    let h = digit_value(high);
-    let l = digit_value(low);
-    if h < 16 && l < 16 { 16 * h + l } else { 256 }
+    place_of(b"0123456789ABCDEF", b)
+}
+
+fn is_hex(text: &[u8]) -> bool
+    ensures { λ r. ⌜ r ≡ isHex (now (text .entry)) ⌝ }
+{
+    let mut i: usize = 0;
+    while i < text.len() {
+        if digit_value(text[i]) == 16 {
+            return false;
+        }
+        i += 1;
+    }
+    true
+}
+
+fn is_record(text: &[u8]) -> bool
+    ensures { λ r. ⌜ r ≡ isRecord (now (text .entry)) ⌝ }
+{
+    let digits = is_hex(text);
+    let n = text.len();
+    digits & (n <= 8) & (n % 2 == 0)
+}
+
+fn digit_at(text: &[u8], i: usize) -> usize
+    ensures { λ r. ⌜ r ≡ digitAt (now (text .entry)) i ⌝ }
+{
+    if i < text.len() {
+        digit_value(text[i])
+    } else {
+        0
+    }
+}
+
+// The byte of two digits; an index in a u8, so that its double fits.
+fn byte_at(text: &[u8], i: u8) -> u8
+    ensures { λ r. ⌜ r ≡ byteAt (now (text .entry)) i ⌝ }
+{
+    let at = 2 * (i as usize);
+    let high = digit_at(text, at);
+    let low = digit_at(text, at + 1);
+    ((16 * high + low) % 256) as u8
 }
 
 // A record's bytes: none where the text is no record.
@@ -69,34 +95,25 @@ pub struct Named {
     pub count: usize,
 }
 
-fn nothing() -> Named
-    ensures { λ r. ⌜ r .count ≤ length (r .bytes) ⌝ }
-{
-    let bytes = [0u8; 4];
-    Named {
-        bytes: bytes,
-        count: 0,
-    }
-}
-
 // The record that 2, 4, 6 or 8 hex digits name.
 pub fn record_of(text: &[u8]) -> Named
-    ensures { λ r. ⌜ r .count ≤ length (r .bytes) ⌝ }
+    ensures { λ r. ⌜ r ≡ recordNamed (now (text .entry)) ⌝ }
 {
-    let n = text.len() / 2;
-    if 4 < n || 2 * n < text.len() {
-        return nothing();
+    if !is_record(text) {
+        let bytes = [0u8; 4];
+        return Named {
+            bytes: bytes,
+            count: 0,
+        };
     }
-    let mut bytes = [0u8; 4];
-    for i in 0..n {
-        let value = pair_value(text[2 * i], text[2 * i + 1]);
-        if 255 < value {
-            return nothing();
-        }
-        bytes[i] = (value % 256) as u8;
-    }
+    let bytes = [
+        byte_at(text, 0),
+        byte_at(text, 1),
+        byte_at(text, 2),
+        byte_at(text, 3),
+    ];
     Named {
         bytes: bytes,
-        count: n,
+        count: text.len() / 2,
     }
 }

@@ -1,45 +1,29 @@
--- The loop's invariant: both digits of each byte left are in the text, and each byte has its place.
-use Prim.Native.Nat.{_*_, _-_, _≤_}
-use mathlib.Core.Path.{_≡_, refl}
+-- A text that is a record, and one that is none.
+use mathlib.Core.Path.{sym, _∙_}
 use borrow.Author.Needs.{needs}
-use native.Mathlib.Omega.{arith}
-use lib.ListN.{length, length-set}
+use borrow.Author.Tests.{not-true, not-false}
+use Rattle.agree.specs.Words.{recordNamed}
 use Rattle.agree.proofs.words.record_of.Statement.{statement}
 use Rattle.agree.proofs.words.record_of.Tie as tie
 
-abbrev Inv-loop : tie.InvT-loop
-Inv-loop text n bytes₀ i₀ bytes i = (i ≤ n) × (n ≤ 4) × (2 * n ≤ length text) × (length bytes ≡ 4)
+returns : tie.Need-returns
+unfolding recordNamed
+returns c = rw (sym (c .before .is-record .ensures) ∙ not-true _ (c .if1 .taken))
 
-abbrev μ-loop : tie.MeasureT-loop
-μ-loop text n bytes₀ i₀ bytes i = n - i
-
-loop-holds : tie.Need-loop-holds Inv-loop μ-loop
-loop-holds c = (omega arith, omega arith, omega arith, refl)
-
-loop-again : tie.Need-loop-again Inv-loop μ-loop
-loop-again c = (omega arith, omega arith, omega arith, simp length-set (omega arith))
+returns-2 : tie.Need-returns-2
+unfolding recordNamed
+returns-2 c =
+    let e = c .before .before .before .before in
+    rw (sym (e .before .is-record .ensures) ∙ not-false _ (e .if1 .left), c .byte-at4 .ensures, c .before .byte-at3 .ensures, c .before .before .byte-at2 .ensures, c .before .before .before .byte-at .ensures)
 
 pub record-of-spec : {M : Type 1} → statement M
 record-of-spec =
     tie.close
     (tie.spec
-    Inv-loop
-    μ-loop
-    (λ c. omega arith)
     (λ c κs. search needs)
-    (λ c. search needs)
-    loop-holds
-    (λ c. omega arith)
-    (λ c. omega arith)
-    (λ c. omega arith)
-    (λ c. omega arith)
-    (λ c. omega arith)
+    returns
     (λ c κs. search needs)
     (λ c κs. search needs)
-    (λ c. search needs)
-    (λ c. omega arith)
-    (λ c. omega arith)
-    (λ c. omega arith)
-    (λ c. omega arith)
-    loop-again
-    (λ c. omega arith))
+    (λ c κs. search needs)
+    (λ c κs. search needs)
+    returns-2)
