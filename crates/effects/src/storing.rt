@@ -26,71 +26,25 @@ fn stored(r: Registers, register: Register, value: u8) -> Registers
 {
     let mut n = r;
     match register {
-        Register::SCSISEQ => {
-            let x = scsiseq_of(value);
-            n.scsiseq = x;
-            n
-        }
-        Register::SXFRCTL0 => {
-            let x = sxfrctl0_of(value);
-            n.sxfrctl0 = x;
-            n
-        }
-        Register::SXFRCTL1 => {
-            let x = sxfrctl1_of(value);
-            n.sxfrctl1 = x;
-            n
-        }
-        Register::SCSISIGO => {
-            let x = scsisig_of(r.scsisig.atno, value);
-            n.scsisig = x;
-            n
-        }
-        Register::SCSIRATE => {
-            let x = scsirate_of(value);
-            n.scsirate = x;
-            n
-        }
-        Register::SCSIID => {
-            let x = scsiid_of(value);
-            n.scsiid = x;
-            n
-        }
-        Register::SCSIDAT => {
-            n.scsidat = value;
-            n
-        }
+        Register::SCSISEQ => n.scsiseq = scsiseq_of(value),
+        Register::SXFRCTL0 => n.sxfrctl0 = sxfrctl0_of(value),
+        Register::SXFRCTL1 => n.sxfrctl1 = sxfrctl1_of(value),
+        Register::SCSISIGO => n.scsisig = scsisig_of(r.scsisig.atno, value),
+        Register::SCSIRATE => n.scsirate = scsirate_of(value),
+        Register::SCSIID => n.scsiid = scsiid_of(value),
+        Register::SCSIDAT => n.scsidat = value,
         Register::CLRSINT1 => {
             let x = !((value >> 6) % 2 == 1) & r.scsisig.atno;
             n.scsisig.atno = x;
-            n
         }
-        Register::SIMODE0 => {
-            let x = simode0_of(value);
-            n.simode0 = x;
-            n
-        }
-        Register::SIMODE1 => {
-            let x = simode1_of(value);
-            n.simode1 = x;
-            n
-        }
-        Register::DMACNTRL0 => {
-            let x = dmacntrl0_of(value);
-            n.dmacntrl0 = x;
-            n
-        }
-        Register::DMACNTRL1 => {
-            let x = dmacntrl1_of(value);
-            n.dmacntrl1 = x;
-            n
-        }
-        Register::BRSTCNTRL => {
-            n.brstcntrl = value;
-            n
-        }
-        _ => n,
+        Register::SIMODE0 => n.simode0 = simode0_of(value),
+        Register::SIMODE1 => n.simode1 = simode1_of(value),
+        Register::DMACNTRL0 => n.dmacntrl0 = dmacntrl0_of(value),
+        Register::DMACNTRL1 => n.dmacntrl1 = dmacntrl1_of(value),
+        Register::BRSTCNTRL => n.brstcntrl = value,
+        _ => {}
     }
+    n
 }
 
 fn written(r: Registers, offset: u8, value: u8) -> Registers

@@ -1,1 +1,2 @@
 pub mod OfState
+pub mod Unread
