@@ -13,8 +13,8 @@ use Rattle.rules.specs.declared.chip.HostFifo.{HostFifo}
 use Rattle.rules.specs.declared.chip.ScsiFifo.{ScsiFifo}
 use Rattle.rules.specs.declared.chip.DataPath.{DataPath}
 use Rattle.fifos.specs.Fifos.{HostTidy, ScsiTidy, PathTidy}
-use Rattle.fifos.proofs.Laws.{host-count, scsi-count}
-use Rattle.laws.proofs.Lists.{padded-take, count-fits}
+use Rattle.fifos.proofs.Laws.{host-fifo, scsi-fifo, held, within}
+use Rattle.laws.proofs.Lists.{padded-take}
 
 module _ (p : DataPath) (e : PathTidy p) where
   pub path-host : HostTidy (p .host)
@@ -35,18 +35,18 @@ module _ (p : DataPath) (e : PathTidy p) where
 
   pub host-held : p .host .count ≡ length (pathView p .host)
   unfolding pathView
-  host-held = host-count (p .host) _ path-host
+  host-held = held host-fifo (p .host) path-host
 
   pub scsi-held : p .scsi .count ≡ length (pathView p .scsi)
   unfolding pathView
-  scsi-held = scsi-count (p .scsi) _ path-scsi
+  scsi-held = held scsi-fifo (p .scsi) path-scsi
 
   -- an array of 128 or 8 places holds no more
   pub host-within : length (p .host .bytes) ≡ 128 → p .host .count ≤ 128
-  host-within n = count-fits 128 (p .host .count) (p .host .bytes) n (host-count (p .host) _ path-host)
+  host-within = within host-fifo (p .host) path-host
 
   pub scsi-within : length (p .scsi .bytes) ≡ 8 → p .scsi .count ≤ 8
-  scsi-within n = count-fits 8 (p .scsi .count) (p .scsi .bytes) n (scsi-count (p .scsi) _ path-scsi)
+  scsi-within = within scsi-fifo (p .scsi) path-scsi
 
 pub offset-small : (p : DataPath) → pathView p .offset ≤ 8
 unfolding pathView

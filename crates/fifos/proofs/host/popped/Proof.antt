@@ -1,39 +1,12 @@
-use Prim.Native.Nat.{_-_}
-use mathlib.Core.Path.{_≡_, ap, _∙_}
-use native.Mathlib.Omega.{arith}
-use lib.ListN.{length, take, drop}
+use mathlib.Core.Path.{_∙_}
 use borrow.Author.Needs.{needs}
-use Rattle.rules.specs.Numbers.{padded}
-use Rattle.rules.specs.Chips.{hostView, hostOf}
-use Rattle.laws.proofs.Lists.{dropped, length-dropped, dropped-all}
+use Rattle.fifos.proofs.Laws.{host-fifo, popped, popped-all}
 use Rattle.fifos.proofs.host.popped.Statement.{statement}
 use Rattle.fifos.proofs.host.popped.Tie as tie
 
-clamped-requires : tie.Need-clamped-requires
-clamped-requires c κs = search needs
-
-empty-requires : tie.Need-empty-requires
-empty-requires c κs = search needs
-
-returns : tie.Need-returns
-returns c =
-    let a = c .before .before .before .before .args in
-    let m = c .before .before .clamped in
-    let e : length (a .f .bytes) ≡ 128 = search needs in
-    c .empty .ensures ∙ ap hostOf (dropped-all 128 (a .f .count) (m .result) (a .f .bytes) e (m .ensures) (a .k) (omega arith))
-
-window-requires : tie.Need-window-requires
-window-requires c κs = search needs
-
-returns-2 : tie.Need-returns-2
-returns-2 c =
-    let a = c .before .before .before .before .args in
-    let m = c .before .before .clamped in
-    let e : length (a .f .bytes) ≡ 128 = search needs in
-    let d : take (m .result - a .k) (drop (a .k) (a .f .bytes)) ≡ drop (a .k) (hostView (a .f)) = dropped 128 (a .f .count) (m .result) (a .f .bytes) e (m .ensures) (a .k) (omega arith) in
-    let l : m .result - a .k ≡ length (drop (a .k) (hostView (a .f))) = length-dropped 128 (a .f .count) (m .result) (a .f .bytes) e (m .ensures) (a .k) in
-    let w : c .window .result ≡ padded 128 (take (m .result - a .k) (drop (a .k) (a .f .bytes))) = c .window .ensures in
-    cc
-
 pub popped-spec : {M : Type 1} → statement M
-popped-spec = tie.close (tie.spec clamped-requires empty-requires returns window-requires returns-2)
+popped-spec =
+    tie.close (tie.spec (λ c κs. search needs) (λ c κs. search needs)
+    (λ c. c .empty .ensures ∙ popped-all host-fifo (c .before .before .before .before .args .f) _ _ (search needs) (c .before .before .clamped .ensures) (c .before .if1 .taken))
+    (λ c κs. search needs)
+    (λ c. popped host-fifo (c .before .before .before .before .args .f) _ _ (search needs) (c .before .before .clamped .ensures) (c .window .ensures) (c .before .if1 .left)))
