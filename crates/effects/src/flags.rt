@@ -27,7 +27,7 @@ pub fn status_a(accessed: bool, acked: bool, enspchk: bool, t: Status, e: Event)
     }
 }
 
-pub fn latches_a(k: Latches, e: Event) -> Latches
+fn latches_written(k: Latches, e: Event) -> Latches
     ensures { λ n. ⌜ n ≡ latchesA k e ⌝ }
 {
     let clears = writes(e, Register::CLRSINT1);
@@ -40,5 +40,18 @@ pub fn latches_a(k: Latches, e: Event) -> Latches
         scsiperr: !(clears & ((v >> 2) % 2 == 1)) & k.scsiperr,
         phasechg: !(clears & ((v >> 1) % 2 == 1)) & k.phasechg,
         reqinit: !(clears & ((v >> 0) % 2 == 1)) & k.reqinit,
+    }
+}
+
+// Only a write clears a latch.
+pub fn latches_a(k: Latches, e: Event) -> Latches
+    ensures { λ n. ⌜ n ≡ latchesA k e ⌝ }
+{
+    match e {
+        Event::Write {
+            offset: _,
+            value: _,
+        } => latches_written(k, e),
+        _ => k,
     }
 }
