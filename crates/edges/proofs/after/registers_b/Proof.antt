@@ -11,4 +11,4 @@ returns c =
 
 pub registers-b-spec : {M : Type 1} → statement M
 unfolding registersB
-registers-b-spec = tie.close (tie.spec returns (λ c κs. search needs) (λ c κs. search needs) (λ c. cc))
+registers-b-spec = tie.close (tie.spec returns (λ c κs. search needs) (λ c κs. search needs) (λ c. rw (c .before .before .scsisig-b .ensures, c .before .before .before .before .scsiseq-b .ensures)))
