@@ -15,6 +15,14 @@ unfolding bsySeen selSeen registersB
 busy-after true r l = refl
 busy-after false r l = refl
 
+-- without a bus reset, a parity error and bus free the registers stay
+pub registers-kept : (reset bad free : Bool) (r : Registers) → not (reset || bad || free) ≡ true → r ≡ registersB reset bad free r
+unfolding registersB
+registers-kept true bad free r e = cc
+registers-kept false true free r e = cc
+registers-kept false false true r e = cc
+registers-kept false false false r e = refl
+
 -- what is left of a conjunction once its first two parts are known
 pub parts-true : (a x d k : Bool) → k ≡ (a && x) → k ≡ true → d ≡ (a && (x && d))
 parts-true a x d k e h = ap (λ (b : Bool). b && d) (sym h ∙ e) ∙ and-assoc a x d

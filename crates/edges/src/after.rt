@@ -51,10 +51,13 @@ fn scsisig_b(zeroed: bool, attention: bool, g: Scsisig) -> Scsisig
     }
 }
 
-// The registers after a bus reset, a parity error and bus free.
+// The registers after a bus reset, a parity error and bus free; nothing else changes them here.
 pub fn registers_b(reset: bool, bad: bool, free: bool, r: Registers) -> Registers
     ensures { λ n. ⌜ n ≡ registersB reset bad free r ⌝ }
 {
+    if !(reset | bad | free) {
+        return r;
+    }
     let q = scsiseq_b(reset, r.scsiseq);
     let g = scsisig_b(reset | free, bad & r.scsiseq.enautoatnp, r.scsisig);
     let scsien = !reset & r.sxfrctl0.scsien;

@@ -1,6 +1,7 @@
 // Status and latches: "A write to 34Ch clears the named status bits and latches"; "34Bh clears latches only; 34Fh clears errors."
 ghost use mathlib.Core.Path.{_≡_};
 ghost use Rattle.rules.specs.StepA.{statusA, latchesA};
+ghost use Rattle.rules.specs.declared.records.Event.the-variants.{WordRead};
 use crate::events::value_of;
 use crate::events::writes;
 use rules::chip::Latches;
@@ -8,8 +9,7 @@ use rules::chip::Status;
 use rules::map::Register;
 use rules::records::Event;
 
-// "While ENSPCHK is 0, SCSIPERR is held at 0": at every event.
-pub fn status_a(accessed: bool, acked: bool, enspchk: bool, t: Status, e: Event) -> Status
+fn status_written(accessed: bool, acked: bool, enspchk: bool, t: Status, e: Event) -> Status
     ensures { λ n. ⌜ n ≡ statusA accessed acked enspchk t e ⌝ }
 {
     let clears = writes(e, Register::CLRSINT1);
@@ -27,7 +27,31 @@ pub fn status_a(accessed: bool, acked: bool, enspchk: bool, t: Status, e: Event)
     }
 }
 
-pub fn latches_a(k: Latches, e: Event) -> Latches
+// Where no register is written, as at a word read.
+fn status_kept(accessed: bool, acked: bool, enspchk: bool, t: Status) -> Status
+    ensures { λ n. ⌜ n ≡ statusA accessed acked enspchk t WordRead ⌝ }
+{
+    let mut n = t;
+    n.spiordy = !accessed & t.spiordy;
+    n.scsiperr = enspchk & t.scsiperr;
+    n.reqinit = !acked & t.reqinit;
+    n
+}
+
+// Only a write clears by its value. "While ENSPCHK is 0, SCSIPERR is held at 0": at every event.
+pub fn status_a(accessed: bool, acked: bool, enspchk: bool, t: Status, e: Event) -> Status
+    ensures { λ n. ⌜ n ≡ statusA accessed acked enspchk t e ⌝ }
+{
+    match e {
+        Event::Write {
+            offset: _,
+            value: _,
+        } => status_written(accessed, acked, enspchk, t, e),
+        _ => status_kept(accessed, acked, enspchk, t),
+    }
+}
+
+fn latches_written(k: Latches, e: Event) -> Latches
     ensures { λ n. ⌜ n ≡ latchesA k e ⌝ }
 {
     let clears = writes(e, Register::CLRSINT1);
@@ -40,5 +64,18 @@ pub fn latches_a(k: Latches, e: Event) -> Latches
         scsiperr: !(clears & ((v >> 2) % 2 == 1)) & k.scsiperr,
         phasechg: !(clears & ((v >> 1) % 2 == 1)) & k.phasechg,
         reqinit: !(clears & ((v >> 0) % 2 == 1)) & k.reqinit,
+    }
+}
+
+// Only a write clears a latch.
+pub fn latches_a(k: Latches, e: Event) -> Latches
+    ensures { λ n. ⌜ n ≡ latchesA k e ⌝ }
+{
+    match e {
+        Event::Write {
+            offset: _,
+            value: _,
+        } => latches_written(k, e),
+        _ => k,
     }
 }

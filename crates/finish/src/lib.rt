@@ -8,6 +8,7 @@ ghost use Rattle.rules.specs.StepD.{fifoConflict, pioReady, statusRaised, statu
 ghost use Rattle.registers.specs.Acking.{acking};
 ghost use Rattle.fifos.specs.Fifos.{PathTidy};
 ghost use Rattle.finish.specs.Finished.{finishedOf};
+ghost use Rattle.finish.specs.Enables.{anyEnable};
 use registers::bus::ack_seen;
 use registers::bus::automatic;
 use registers::bus::matched;
@@ -63,7 +64,15 @@ fn sets(enable: bool, before: bool, status: bool, raised: bool) -> bool
     enable & ((raised & !status) | (status & !before))
 }
 
-// The latches; what is set stays.
+// Is the interrupt of any latch enabled?
+fn any_enable(r: Registers) -> bool
+    ensures { λ b. ⌜ b ≡ anyEnable r ⌝ }
+{
+    let e = r.simode1;
+    r.simode0.enspiordy | e.enscsirst | e.enbusfree | e.enscsiperr | e.enphasechg | e.enreqinit
+}
+
+// The latches; what is set stays, and none is set where no interrupt is enabled.
 pub fn latches_d(
     before: Registers,
     r: Registers,
@@ -73,6 +82,9 @@ pub fn latches_d(
 ) -> Latches
     ensures { λ n. ⌜ n ≡ latchesD before r status raised k ⌝ }
 {
+    if !any_enable(r) {
+        return k;
+    }
     let c = r.simode0;
     let d = before.simode0;
     let e = r.simode1;

@@ -30,11 +30,15 @@ pub fn instat_of(r: Registers, l: Lines, k: Latches, reqinit: bool) -> bool
     any_latch(k) | (phasemis_of(r, l, reqinit) & r.simode1.enphasemis) | r.dmacntrl0.swint
 }
 
-// "IRQ is INSTAT and INTEN."
+// "IRQ is INSTAT and INTEN.": INSTAT is looked at only where INTEN is set.
 pub fn irq_of(r: Registers, l: Lines, k: Latches, reqinit: bool) -> bool
     ensures { λ b. ⌜ b ≡ irqOf r l k reqinit ⌝ }
 {
-    instat_of(r, l, k, reqinit) & r.dmacntrl0.inten
+    if r.dmacntrl0.inten {
+        instat_of(r, l, k, reqinit)
+    } else {
+        false
+    }
 }
 
 pub fn phasemis(c: Chip) -> bool

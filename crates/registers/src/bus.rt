@@ -130,11 +130,15 @@ pub fn data_driven(r: Registers, l: Lines, ack: bool, last: u8) -> u8
     }
 }
 
-// "Parity driven makes the ones odd."
+// "Parity driven makes the ones odd.": they are counted only where data is driven.
 pub fn parity_driven(r: Registers, l: Lines, ack: bool, last: u8) -> bool
     ensures { λ b. ⌜ b ≡ parityDriven r l (acking ack last) ⌝ }
 {
-    driving(r, l, ack) & parity_for(data_driven(r, l, ack, last))
+    if driving(r, l, ack) {
+        parity_for(data_driven(r, l, ack, last))
+    } else {
+        false
+    }
 }
 
 pub fn data_seen(r: Registers, l: Lines, ack: bool, last: u8) -> u8
