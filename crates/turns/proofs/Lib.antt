@@ -1,0 +1,2 @@
+pub mod PartsOfA
+pub mod PartsOfD
