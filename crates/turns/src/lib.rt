@@ -1,2 +1,3 @@
 // One event on the chip in the bytes of one array: the checks, then A, B, C and D, each in place.
 mod acting;
+mod reset;
