@@ -1,2 +1,4 @@
+pub mod Coding
+pub mod Going
 pub mod PartsOfA
 pub mod PartsOfD

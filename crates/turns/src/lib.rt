@@ -1,3 +1,4 @@
 // One event on the chip in the bytes of one array: the checks, then A, B, C and D, each in place.
 mod acting;
+mod coded;
 mod reset;
