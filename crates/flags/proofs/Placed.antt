@@ -3,6 +3,7 @@ use Prim.Native.Nat.{ℕ}
 use mathlib.Core.Path.{_≡_, refl, ap, sym, _∙_}
 use mathlib.Core.List.{List}
 use lib.ListN.{set, getD}
+use Rattle.rules.specs.Numbers.{bit}
 use Rattle.rules.specs.State.{State}
 use Rattle.rules.specs.declared.chip.Status.{Status}
 use Rattle.rules.specs.declared.chip.Latches.{Latches}
@@ -37,3 +38,7 @@ status-at m = refl
 pub latches-at : (m : List ℕ) → stateAt m .latches ≡ latchesOf (getD m 13 0)
 unfolding stateAt
 latches-at m = refl
+
+pub enspchk-at : (m : List ℕ) → stateAt m .registers .sxfrctl1 .enspchk ≡ bit (getD m 2 0) 5
+unfolding stateAt
+enspchk-at m = refl
