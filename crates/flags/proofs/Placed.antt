@@ -42,3 +42,10 @@ latches-at m = refl
 pub enspchk-at : (m : List ℕ) → stateAt m .registers .sxfrctl1 .enspchk ≡ bit (getD m 2 0) 5
 unfolding stateAt
 enspchk-at m = refl
+
+-- stored, and what was stored is what is to stand there
+pub status-as : (s : State) {t u : Status} {m : List ℕ} → t ≡ u → m ≡ imageOf (withStatus t s) → m ≡ imageOf (withStatus u s)
+status-as s e h = h ∙ ap (λ (x : Status). imageOf (withStatus x s)) e
+
+pub latches-as : (s : State) {k l : Latches} {m : List ℕ} → k ≡ l → m ≡ imageOf (withLatches k s) → m ≡ imageOf (withLatches l s)
+latches-as s e h = h ∙ ap (λ (x : Latches). imageOf (withLatches x s)) e

@@ -1,8 +1,11 @@
 // The status byte, place 12.
 ghost use mathlib.Core.Path.{_≡_};
+ghost use Rattle.rules.specs.Seen.{ackSeen};
 ghost use Rattle.rules.specs.StepA.{statusA};
+ghost use Rattle.rules.specs.StepD.{statusD};
 ghost use Rattle.rules.specs.declared.records.Event.the-variants.{Write, WordRead};
 ghost use Rattle.image.specs.Image.{IsImage, imageOf, stateAt, withStatus};
+use image::bus::ack_seen;
 use image::bytes::status_byte;
 use image::bytes::status_of;
 use rules::chip::Status;
@@ -84,4 +87,21 @@ pub fn status_in(m: &mut [u8; 196], accessed: bool, acked: bool, e: Event)
         Event::Write { offset, value } => status_written_in(m, accessed, acked, offset, value),
         _ => status_kept_in(m, accessed, acked),
     }
+}
+
+// "Each ACK ... clears REQINIT." "REQINIT also falls when ACK is seen."
+pub fn fallen_in(m: &mut [u8; 196], acks: u8)
+    requires { ⌜ IsImage (now m) ⌝ }
+    ensures { λ _. ⌜ now (m .exit) ≡ imageOf (withStatus (statusD acks (ackSeen ((stateAt (now (m .entry))) .registers) ((stateAt (now (m .entry))) .lines) ((stateAt (now (m .entry))) .transfer)) ((stateAt (now (m .entry))) .status)) (stateAt (now (m .entry)))) ⌝ }
+{
+    if !((m[12] >> 2) % 2 == 1) {
+        return;
+    }
+    let seen = ack_seen(m);
+    if !(0 < acks) & !seen {
+        return;
+    }
+    let mut t = status_of(m[12]);
+    t.reqinit = false;
+    status_put(m, t);
 }
