@@ -1,0 +1,3 @@
+pub mod Falling
+pub mod Placed
+pub mod Unwritten
