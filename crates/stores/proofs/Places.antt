@@ -1,0 +1,20 @@
+-- A store at its place of an image is the image of the state with that component another.
+use Prim.Native.Nat.{ℕ}
+use mathlib.Core.Path.{_≡_, refl, ap, _∙_}
+use mathlib.Core.List.{List}
+use lib.ListN.{set}
+use Rattle.rules.specs.State.{State}
+use Rattle.rules.specs.declared.records.Lines.{Lines}
+use Rattle.image.specs.Image.{IsImage, imageOf, stateAt, withLines, upperByte, controlByte}
+
+-- what holds of the image of every state holds of an array that is an image
+pub of-image : (f : List ℕ → List ℕ) (g : State → State) → ((s : State) → f (imageOf s) ≡ imageOf (g s)) → (m : List ℕ) → IsImage m → f m ≡ imageOf (g (stateAt m))
+of-image f g law m i = ap f (i .packed) ∙ law (stateAt m)
+
+-- the three bytes of the lines
+abbrev pub withLineBytes : Lines → List ℕ → List ℕ
+withLineBytes l m = set (set (set m 14 (l .byte)) 15 (upperByte l)) 16 (controlByte l)
+
+pub lines-image : (l : Lines) (s : State) → withLineBytes l (imageOf s) ≡ imageOf (withLines l s)
+unfolding imageOf
+lines-image l s = refl
