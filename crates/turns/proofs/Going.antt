@@ -14,3 +14,7 @@ module _ {m : List ℕ} (s : State) (e : m ≡ imageOf s) (i : InRange s) (j : I
 
   pub image-is : IsImage m
   image-is = subst IsImage (sym e) (is-image s i j)
+
+-- a part of an event that goes on from the image of t
+pub onward : (part : State → State) {m n : List ℕ} (t : State) → m ≡ imageOf t → InRange t → InBytes t → n ≡ imageOf (part (stateAt m)) → n ≡ imageOf (part t)
+onward part t e i j h = h ∙ ap (λ (x : State). imageOf (part x)) (state-is t e i j)

@@ -2,3 +2,4 @@ pub mod Coding
 pub mod Going
 pub mod PartsOfA
 pub mod PartsOfD
+pub mod ThroughA
