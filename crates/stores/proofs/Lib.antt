@@ -1,2 +1,4 @@
 pub mod Arms
+pub mod Kept
+pub mod Names
 pub mod Places
