@@ -1,3 +1,4 @@
 pub mod Falling
 pub mod Placed
+pub mod Raising
 pub mod Unwritten

@@ -2,10 +2,14 @@
 ghost use mathlib.Core.Path.{_≡_};
 ghost use Rattle.rules.specs.Seen.{ackSeen};
 ghost use Rattle.rules.specs.StepA.{statusA};
-ghost use Rattle.rules.specs.StepD.{statusD};
+ghost use Rattle.rules.specs.StepD.{fifoConflict, pioReady, statusRaised, statusD};
 ghost use Rattle.rules.specs.declared.records.Event.the-variants.{Write, WordRead};
-ghost use Rattle.image.specs.Image.{IsImage, imageOf, stateAt, withStatus};
+ghost use Rattle.image.specs.Image.{IsImage, imageOf, stateAt, registersAt, linesAt, transferAt, withStatus};
 use image::bus::ack_seen;
+use image::bus::automatic;
+use image::bus::matched;
+use image::bus::normal;
+use image::bus::path;
 use image::bytes::status_byte;
 use image::bytes::status_of;
 use rules::chip::Status;
@@ -103,5 +107,35 @@ pub fn fallen_in(m: &mut [u8; 196], acks: u8)
     }
     let mut t = status_of(m[12]);
     t.reqinit = false;
+    status_put(m, t);
+}
+
+// "Normal mode with DMAEN, SCSIEN and no path sets FWERR."
+fn fifo_conflict(m: &[u8; 196]) -> bool
+    ensures { λ b. ⌜ b ≡ fifoConflict (registersAt (now (m .entry))) ⌝ }
+{
+    normal(m) & ((m[1] >> 7) % 2 == 1) & !path(m)
+}
+
+// "Automatic mode, matched, REQ seen, automatic ACK off sets SPIORDY."
+fn pio_ready(m: &[u8; 196]) -> bool
+    ensures { λ b. ⌜ b ≡ pioReady (registersAt (now (m .entry))) (linesAt (now (m .entry))) (transferAt (now (m .entry))) ⌝ }
+{
+    automatic(m) & matched(m) & ((m[16] >> 1) % 2 == 1) & !(m[18] == 1)
+}
+
+// What each status rose to in the event.
+pub fn raised_in(m: &mut [u8; 196])
+    requires { ⌜ IsImage (now m) ⌝ }
+    ensures { λ _. ⌜ now (m .exit) ≡ imageOf (withStatus (statusRaised ((stateAt (now (m .entry))) .registers) ((stateAt (now (m .entry))) .lines) ((stateAt (now (m .entry))) .transfer) ((stateAt (now (m .entry))) .status)) (stateAt (now (m .entry)))) ⌝ }
+{
+    let ready = pio_ready(m);
+    let conflict = fifo_conflict(m);
+    if !(ready | conflict) {
+        return;
+    }
+    let mut t = status_of(m[12]);
+    t.spiordy = ready | t.spiordy;
+    t.fwerr = conflict | t.fwerr;
     status_put(m, t);
 }
