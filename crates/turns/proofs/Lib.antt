@@ -3,3 +3,4 @@ pub mod Going
 pub mod PartsOfA
 pub mod PartsOfD
 pub mod ThroughA
+pub mod ThroughB
