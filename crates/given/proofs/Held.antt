@@ -4,7 +4,7 @@ use mathlib.Core.Path.{_≡_, refl, sym, ap, _∙_}
 use mathlib.Core.Bool.{Bool}
 use mathlib.Core.List.{List, [], _∷_, _++_}
 use native.Mathlib.Omega.{arith}
-use lib.ListN.{length, take, drop, getD, replicate, length-append}
+use lib.ListN.{length, drop, getD, replicate, length-append}
 use lib.Seq.{getD-append-add, getD-take, getD-drop}
 use Rattle.rules.specs.Numbers.{padded}
 use Rattle.rules.specs.Counter.{counterByte}

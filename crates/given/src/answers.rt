@@ -37,7 +37,14 @@ pub fn control_driven(m: &[u8; 196]) -> u8
 }
 
 // The sixteen bytes of the answer after an event, with what settling reports and the bytes sent.
-pub fn answer_of(m: &[u8; 196], code: Code, value: u16, moves: u8, acks: u8, sent: [u8; 8]) -> [u8; 16]
+pub fn answer_of(
+    m: &[u8; 196],
+    code: Code,
+    value: u16,
+    moves: u8,
+    acks: u8,
+    sent: [u8; 8],
+) -> [u8; 16]
     requires { ⌜ IsImage (now m) ⌝ }
     ensures { λ r. ⌜ r ≡ answerBytes (answerWith (stateAt (now (m .entry))) code value moves acks sent) ⌝ }
 {
@@ -47,9 +54,6 @@ pub fn answer_of(m: &[u8; 196], code: Code, value: u16, moves: u8, acks: u8, sen
     let control = control_driven(m);
     let driven = data_driven(m);
     let rst = (m[0] >> 0) % 2 == 1;
-    let offset = m[17];
-    let scsi = m[23];
-    let host = m[24];
     let a = Answer {
         code: code,
         irq: irq,
@@ -61,9 +65,9 @@ pub fn answer_of(m: &[u8; 196], code: Code, value: u16, moves: u8, acks: u8, sen
         value: value,
         control: control,
         driven: driven,
-        offset: offset,
-        scsi: scsi,
-        host: host,
+        offset: m[17],
+        scsi: m[23],
+        host: m[24],
         sent: sent,
     };
     answer_bytes(a)

@@ -45,7 +45,16 @@ pub fn sstat1(m: &[u8; 196]) -> u8
     let scsiperr = (m[12] >> 4) % 2 == 1;
     let phasechg = (m[12] >> 3) % 2 == 1;
     let reqinit = (m[12] >> 2) % 2 == 1;
-    byte_of(false, false, scsirsti, phasemis, busfree, scsiperr, phasechg, reqinit)
+    byte_of(
+        false,
+        false,
+        scsirsti,
+        phasemis,
+        busfree,
+        scsiperr,
+        phasechg,
+        reqinit,
+    )
 }
 
 // 34Dh
@@ -55,7 +64,17 @@ pub fn sstat2(m: &[u8; 196]) -> u8
 {
     let offset = m[17];
     let count = m[23];
-    byte_of(false, false, !(offset == 0), count == 0, count == 8, false, false, false) + count % 8
+    byte_of(
+        false,
+        false,
+        !(offset == 0),
+        count == 0,
+        count == 8,
+        false,
+        false,
+        false,
+    )
+        + count % 8
 }
 
 // 34Eh

@@ -1,7 +1,7 @@
 use borrow.Author.Needs.{needs}
-use mathlib.Core.Path.{_≡_, sym, ap, _∙_}
+use mathlib.Core.Path.{sym, _∙_}
 use mathlib.Core.Bool.{false, or-false}
-use lib.ListN.{length, getD}
+use lib.ListN.{getD}
 use Rattle.rules.specs.Numbers.{bit, byteOf}
 use Rattle.rules.specs.Answers.{controlDriven}
 use Rattle.image.specs.Image.{stateAt}

@@ -1,8 +1,8 @@
 use borrow.Author.Needs.{needs}
-use mathlib.Core.Path.{_≡_, sym, ap, _∙_}
+use mathlib.Core.Path.{_∙_}
 use mathlib.Core.Bool.{false, not, _&&_}
 use lib.Dec.{eqb, leb}
-use lib.ListN.{length, getD}
+use lib.ListN.{getD}
 use Rattle.rules.specs.Numbers.{bit, byteOf}
 use Rattle.rules.specs.Reads.{dmastat}
 use Rattle.image.specs.Image.{stateAt}

@@ -1,5 +1,5 @@
 use borrow.Author.Needs.{needs}
-use mathlib.Core.Path.{_≡_, sym, ap, _∙_}
+use mathlib.Core.Path.{ap, _∙_}
 use lib.ListN.{getD}
 use Rattle.image.specs.Image.{stateAt}
 use Rattle.registers.specs.OffsetCount.{sstat3Of}

@@ -1,6 +1,5 @@
 use borrow.Author.Needs.{needs}
 use native.Mathlib.Omega.{arith}
-use Rattle.image.specs.Image.{stateAt}
 use Rattle.given.proofs.Held.{place-inside, at-place}
 use Rattle.given.proofs.status.stack_byte.Statement.{statement}
 use Rattle.given.proofs.status.stack_byte.Tie as tie

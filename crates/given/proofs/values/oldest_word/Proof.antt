@@ -1,7 +1,6 @@
 use borrow.Author.Needs.{needs}
-use mathlib.Core.Path.{_≡_, sym, ap, _∙_}
+use mathlib.Core.Path.{ap₂, _∙_}
 use Prim.Native.Nat.{ℕ, _+_, _*_}
-use mathlib.Core.Path.{ap₂}
 use Rattle.given.proofs.Held.{at-first, at-second}
 use Rattle.given.proofs.values.oldest_word.Statement.{statement}
 use Rattle.given.proofs.values.oldest_word.Tie as tie
