@@ -1,0 +1,4 @@
+pub mod Gates
+pub mod LatchByte
+pub mod Unread
+pub mod Held
