@@ -6,6 +6,7 @@ ghost use Rattle.rules.specs.StepA.{identityA};
 ghost use Rattle.rules.specs.declared.records.Event.the-variants.{Read};
 ghost use Rattle.image.specs.Image.{IsImage, imageOf, stateAt, withLines, withIdentity};
 
+pub mod stacking;
 pub mod storing;
 
 use image::bytes::control_byte;
