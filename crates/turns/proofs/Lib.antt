@@ -4,3 +4,4 @@ pub mod PartsOfA
 pub mod PartsOfD
 pub mod ThroughA
 pub mod ThroughB
+pub mod ThroughD

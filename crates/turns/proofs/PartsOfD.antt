@@ -33,3 +33,23 @@ module _ (s : State) (e : Event) where
   pub all-of-d : latchedState ≡ afterD s e
   unfolding afterD finished
   all-of-d = refl
+
+  module _ (i : InRange (afterB s e)) (f : TransferFits ((settledC s e) .transfer)) where
+    pub settled-range : InRange settledState
+    settled-range = record { registers = i .registers; transfer = f; stack = i .stack; quiet = i .quiet; identity = i .identity }
+
+    pub raised-range : InRange raisedState
+    raised-range = record { registers = i .registers; transfer = f; stack = i .stack; quiet = i .quiet; identity = i .identity }
+
+    pub fallen-range : InRange fallenState
+    fallen-range = record { registers = i .registers; transfer = f; stack = i .stack; quiet = i .quiet; identity = i .identity }
+
+  module _ (i : InBytes (afterB s e)) (f : TransferBytes ((settledC s e) .transfer)) where
+    pub settled-in-bytes : InBytes settledState
+    settled-in-bytes = record { lines = i .lines; registers = i .registers; transfer = f; stack = i .stack }
+
+    pub raised-in-bytes : InBytes raisedState
+    raised-in-bytes = record { lines = i .lines; registers = i .registers; transfer = f; stack = i .stack }
+
+    pub fallen-in-bytes : InBytes fallenState
+    fallen-in-bytes = record { lines = i .lines; registers = i .registers; transfer = f; stack = i .stack }
