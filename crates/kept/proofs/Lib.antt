@@ -1,2 +1,4 @@
 pub mod Pasted
 pub mod Stored
+pub mod Window
+pub mod Held

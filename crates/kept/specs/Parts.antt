@@ -3,7 +3,7 @@ use Prim.Native.Nat.{ℕ}
 use mathlib.Core.Path.{_≡_}
 use mathlib.Core.Bool.{Bool}
 use mathlib.Core.List.{List, [], _∷_}
-use lib.ListN.{length}
+use lib.ListN.{length, take, drop, getD}
 use lib.Seq.{paste}
 use Rattle.rules.specs.Numbers.{one}
 use Rattle.rules.specs.Counter.{counterByte}
@@ -12,6 +12,7 @@ use Rattle.rules.specs.declared.registers.Registers.{Registers}
 use Rattle.rules.specs.declared.records.Lines.{Lines}
 use Rattle.rules.specs.declared.chip.Status.{Status}
 use Rattle.rules.specs.declared.chip.Latches.{Latches}
+use Rattle.rules.specs.declared.chip.Stack.{Stack}
 use Rattle.image.specs.Image.{scsisigByte, scsirateByte, scsiidByte, statusByte, latchesByte, upperByte, controlByte}
 
 -- from 0 on
@@ -50,3 +51,7 @@ pub record Placed (before : List ℕ) (at : ℕ) (s : List ℕ) (n : ℕ) (after
   pub size : length before ≡ 196
   pub enough : length s ≡ n
   pub placed : after ≡ paste before at s n
+
+-- the stack that an image holds
+abbrev pub stackAt : List ℕ → Stack
+stackAt m = record { bytes = take 32 (drop 36 m); pointer = getD m 22 0 }
