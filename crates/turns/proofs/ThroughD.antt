@@ -1,64 +1,61 @@
--- D, on the image that settling left.
-use mathlib.Core.Path.{_≡_, refl, ap, sym, _∙_}
-use mathlib.Core.Bool.{Bool}
+-- D, part by part.
+use mathlib.Core.Path.{_≡_, ap, _∙_}
 use mathlib.Core.List.{List}
 use Prim.Native.Nat.{ℕ}
 use lib.ListN.{getD}
 use Rattle.rules.specs.State.{State}
-use Rattle.rules.specs.Seen.{ackSeen}
-use Rattle.rules.specs.Registers.{simode0Of, simode1Of}
-use Rattle.rules.specs.Codes.{accessCode, isDone}
-use Rattle.rules.specs.StepA.{afterA}
-use Rattle.rules.specs.StepB.{afterB}
-use Rattle.rules.specs.StepC.{settledC}
-use Rattle.rules.specs.StepD.{statusRaised, statusD, latchesD, afterD}
-use Rattle.rules.specs.Ranges.{InRange, InBytes, EventFits}
-use Rattle.rules.specs.declared.codes.Code.the-variants.{Done}
-use Rattle.rules.specs.declared.records.Event.{Event}
+use Rattle.rules.specs.Ranges.{InRange, InBytes}
+use Rattle.rules.specs.declared.registers.Simode0.{Simode0}
+use Rattle.rules.specs.declared.registers.Simode1.{Simode1}
 use Rattle.rules.specs.declared.chip.Status.{Status}
-use Rattle.rules.proofs.Ranges.{settled-fits, settled-bytes}
-use Rattle.image.specs.Image.{imageOf, stateAt, statusOf, IsImage, withTransfer, withStatus, withLatches}
-use Rattle.flags.specs.Latching.{latchesFrom}
-use Rattle.flags.proofs.Steady.{latches-from-registers}
+use Rattle.image.specs.Image.{imageOf, stateAt, statusOf, IsImage}
+use Rattle.turns.specs.Closing.{raisedBy, fallenBy, latchedBy, closedBy}
 use Rattle.turns.proofs.Going.{image-is, state-is, onward}
-use Rattle.turns.proofs.PartsOfD as parts
 
 -- the status that an image's byte holds
 pub status-of : (m : List ℕ) {t : State} → stateAt m ≡ t → statusOf (getD m 12 0) ≡ t .status
 unfolding stateAt
 status-of m e = ap (λ (x : State). x .status) e
 
-module _ (s : State) (e : Event) (i : InRange (afterB s e)) (j : InBytes (afterB s e)) {c : List ℕ} (h : c ≡ imageOf (parts.settledState s e)) where
-  pub image-c : IsImage c
-  image-c = image-is (parts.settledState s e) h (parts.settled-range s e i (settled-fits s e i)) (parts.settled-in-bytes s e j (settled-bytes s e j .transfer))
+module _ {m : List ℕ} (g : IsImage m) {r : List ℕ} (h : r ≡ imageOf (raisedBy (stateAt m))) where
+  abbrev s : State
+  s = stateAt m
 
-  module _ {r : List ℕ} (k : r ≡ imageOf (withStatus (statusRaised ((stateAt c) .registers) ((stateAt c) .lines) ((stateAt c) .transfer) ((stateAt c) .status)) (stateAt c))) where
-    is-r : r ≡ imageOf (parts.raisedState s e)
-    is-r =
-        onward (λ (x : State). withStatus (statusRaised (x .registers) (x .lines) (x .transfer) (x .status)) x) (parts.settledState s e) h
-        (parts.settled-range s e i (settled-fits s e i)) (parts.settled-in-bytes s e j (settled-bytes s e j .transfer)) k
+  raised-range : InRange (raisedBy s)
+  raised-range =
+      let i = g .range in
+      record { registers = i .registers; transfer = i .transfer; stack = i .stack; quiet = i .quiet; identity = i .identity }
 
-    pub image-r : IsImage r
-    image-r = image-is (parts.raisedState s e) is-r (parts.raised-range s e i (settled-fits s e i)) (parts.raised-in-bytes s e j (settled-bytes s e j .transfer))
+  raised-bytes : InBytes (raisedBy s)
+  raised-bytes =
+      let j = g .bytes in
+      record { lines = j .lines; registers = j .registers; transfer = j .transfer; stack = j .stack }
 
-    pub status-r : statusOf (getD r 12 0) ≡ (parts.raisedState s e) .status
-    status-r = status-of r (state-is (parts.raisedState s e) is-r (parts.raised-range s e i (settled-fits s e i)) (parts.raised-in-bytes s e j (settled-bytes s e j .transfer)))
+  pub image-raised : IsImage r
+  image-raised = image-is (raisedBy s) h raised-range raised-bytes
 
-    module _ {acks : ℕ} (p : acks ≡ (settledC s e) .acks) {l : List ℕ} (q : l ≡ imageOf (withStatus (statusD acks (ackSeen ((stateAt r) .registers) ((stateAt r) .lines) ((stateAt r) .transfer)) ((stateAt r) .status)) (stateAt r))) where
-      is-l : l ≡ imageOf (parts.fallenState s e)
-      is-l =
-          onward (λ (x : State). withStatus (statusD acks (ackSeen (x .registers) (x .lines) (x .transfer)) (x .status)) x) (parts.raisedState s e) is-r
-          (parts.raised-range s e i (settled-fits s e i)) (parts.raised-in-bytes s e j (settled-bytes s e j .transfer)) q
-          ∙ ap (λ (n : ℕ). imageOf (withStatus (statusD n (ackSeen ((parts.raisedState s e) .registers) ((parts.raisedState s e) .lines) ((parts.raisedState s e) .transfer)) ((parts.raisedState s e) .status)) (parts.raisedState s e))) p
+  status-raised : statusOf (getD r 12 0) ≡ (raisedBy s) .status
+  status-raised = status-of r (state-is (raisedBy s) h raised-range raised-bytes)
 
-      pub image-l : IsImage l
-      image-l = image-is (parts.fallenState s e) is-l (parts.fallen-range s e i (settled-fits s e i)) (parts.fallen-in-bytes s e j (settled-bytes s e j .transfer))
+  module _ (acks : ℕ) {l : List ℕ} (k : l ≡ imageOf (fallenBy acks (stateAt r))) where
+    fallen-is : l ≡ imageOf (fallenBy acks (raisedBy s))
+    fallen-is = onward (fallenBy acks) (raisedBy s) h raised-range raised-bytes k
 
-      module _ (before0 before1 status : ℕ) (x : simode0Of before0 ≡ s .registers .simode0) (y : simode1Of before1 ≡ s .registers .simode1) (z : statusOf status ≡ (afterA s e) .status) {d : List ℕ} (w : d ≡ imageOf (withLatches (latchesFrom (simode0Of before0) (simode1Of before1) ((stateAt l) .registers .simode0) ((stateAt l) .registers .simode1) (statusOf status) (statusOf (getD r 12 0)) ((stateAt l) .latches)) (stateAt l))) where
-        pub is-d : d ≡ imageOf (afterD s e)
-        is-d =
-            onward (λ (v : State). withLatches (latchesFrom (simode0Of before0) (simode1Of before1) (v .registers .simode0) (v .registers .simode1) (statusOf status) (statusOf (getD r 12 0)) (v .latches)) v) (parts.fallenState s e) is-l
-            (parts.fallen-range s e i (settled-fits s e i)) (parts.fallen-in-bytes s e j (settled-bytes s e j .transfer)) w
-            ∙ (λ n. imageOf (withLatches (latchesFrom (x n) (y n) ((parts.fallenState s e) .registers .simode0) ((parts.fallenState s e) .registers .simode1) (z n) (status-r n) ((parts.fallenState s e) .latches)) (parts.fallenState s e)))
-            ∙ ap (λ v. imageOf (withLatches v (parts.fallenState s e))) (sym (latches-from-registers (s .registers) ((parts.fallenState s e) .registers) ((afterA s e) .status) ((parts.raisedState s e) .status) ((parts.fallenState s e) .latches)))
-            ∙ ap imageOf (parts.all-of-d s e)
+    fallen-range : InRange (fallenBy acks (raisedBy s))
+    fallen-range =
+        let i = g .range in
+        record { registers = i .registers; transfer = i .transfer; stack = i .stack; quiet = i .quiet; identity = i .identity }
+
+    fallen-bytes : InBytes (fallenBy acks (raisedBy s))
+    fallen-bytes =
+        let j = g .bytes in
+        record { lines = j .lines; registers = j .registers; transfer = j .transfer; stack = j .stack }
+
+    pub image-fallen : IsImage l
+    image-fallen = image-is (fallenBy acks (raisedBy s)) fallen-is fallen-range fallen-bytes
+
+    pub closed : (b0 : Simode0) (b1 : Simode1) (status : Status) {d : List ℕ} → d ≡ imageOf (latchedBy b0 b1 status (statusOf (getD r 12 0)) (stateAt l)) → d ≡ imageOf (closedBy b0 b1 status acks s)
+    unfolding closedBy
+    closed b0 b1 status w =
+        onward (latchedBy b0 b1 status (statusOf (getD r 12 0))) (fallenBy acks (raisedBy s)) fallen-is fallen-range fallen-bytes w
+        ∙ ap (λ (t : Status). imageOf (latchedBy b0 b1 status t (fallenBy acks (raisedBy s)))) status-raised

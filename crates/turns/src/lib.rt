@@ -1,4 +1,5 @@
 // One event on the chip in the bytes of one array: the checks, then A, B, C and D, each in place.
 mod acting;
+mod closing;
 mod coded;
 mod reset;
