@@ -1,3 +1,5 @@
 pub mod From
 pub mod Laws
 pub mod EdgesIn
+pub mod Placed
+pub mod AppliedIn
