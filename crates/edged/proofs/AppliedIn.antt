@@ -18,16 +18,18 @@ use Rattle.edged.proofs.Placed.{seq-at, sig-at, quiet-placed}
 lines-at : (s : State) → linesAt (imageOf s) ≡ s .lines
 unfolding imageOf
 lines-at s =
-    rw (bit-1 false false false false false false (s .lines .parity) (s .lines .rst),
-    bit-0 false false false false false false (s .lines .parity) (s .lines .rst),
-    bit-7 (s .lines .cd) (s .lines .io) (s .lines .msg) (s .lines .atn) (s .lines .sel) (s .lines .bsy) (s .lines .req) (s .lines .ack),
-    bit-6 (s .lines .cd) (s .lines .io) (s .lines .msg) (s .lines .atn) (s .lines .sel) (s .lines .bsy) (s .lines .req) (s .lines .ack),
-    bit-5 (s .lines .cd) (s .lines .io) (s .lines .msg) (s .lines .atn) (s .lines .sel) (s .lines .bsy) (s .lines .req) (s .lines .ack),
-    bit-4 (s .lines .cd) (s .lines .io) (s .lines .msg) (s .lines .atn) (s .lines .sel) (s .lines .bsy) (s .lines .req) (s .lines .ack),
-    bit-3 (s .lines .cd) (s .lines .io) (s .lines .msg) (s .lines .atn) (s .lines .sel) (s .lines .bsy) (s .lines .req) (s .lines .ack),
-    bit-2 (s .lines .cd) (s .lines .io) (s .lines .msg) (s .lines .atn) (s .lines .sel) (s .lines .bsy) (s .lines .req) (s .lines .ack),
-    bit-1 (s .lines .cd) (s .lines .io) (s .lines .msg) (s .lines .atn) (s .lines .sel) (s .lines .bsy) (s .lines .req) (s .lines .ack),
-    bit-0 (s .lines .cd) (s .lines .io) (s .lines .msg) (s .lines .atn) (s .lines .sel) (s .lines .bsy) (s .lines .req) (s .lines .ack))
+    rw (
+      bit-1 false false false false false false (s .lines .parity) (s .lines .rst),
+      bit-0 false false false false false false (s .lines .parity) (s .lines .rst),
+      bit-7 (s .lines .cd) (s .lines .io) (s .lines .msg) (s .lines .atn) (s .lines .sel) (s .lines .bsy) (s .lines .req) (s .lines .ack),
+      bit-6 (s .lines .cd) (s .lines .io) (s .lines .msg) (s .lines .atn) (s .lines .sel) (s .lines .bsy) (s .lines .req) (s .lines .ack),
+      bit-5 (s .lines .cd) (s .lines .io) (s .lines .msg) (s .lines .atn) (s .lines .sel) (s .lines .bsy) (s .lines .req) (s .lines .ack),
+      bit-4 (s .lines .cd) (s .lines .io) (s .lines .msg) (s .lines .atn) (s .lines .sel) (s .lines .bsy) (s .lines .req) (s .lines .ack),
+      bit-3 (s .lines .cd) (s .lines .io) (s .lines .msg) (s .lines .atn) (s .lines .sel) (s .lines .bsy) (s .lines .req) (s .lines .ack),
+      bit-2 (s .lines .cd) (s .lines .io) (s .lines .msg) (s .lines .atn) (s .lines .sel) (s .lines .bsy) (s .lines .req) (s .lines .ack),
+      bit-1 (s .lines .cd) (s .lines .io) (s .lines .msg) (s .lines .atn) (s .lines .sel) (s .lines .bsy) (s .lines .req) (s .lines .ack),
+      bit-0 (s .lines .cd) (s .lines .io) (s .lines .msg) (s .lines .atn) (s .lines .sel) (s .lines .bsy) (s .lines .req) (s .lines .ack),
+    )
 
 -- a mismatch is seen by 340h, 343h and the lines alone
 mismatched-by : (r q : Registers) (l k : Lines) → r .scsisig ≡ q .scsisig → r .scsiseq ≡ q .scsiseq → l ≡ k → mismatched r l ≡ mismatched q k

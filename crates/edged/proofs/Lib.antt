@@ -3,3 +3,4 @@ pub mod Laws
 pub mod EdgesIn
 pub mod Placed
 pub mod AppliedIn
+pub mod Room
