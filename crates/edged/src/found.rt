@@ -52,11 +52,7 @@ fn inbound_bad(m: &[u8; 196]) -> bool
 pub fn parity_bad(m: &[u8; 196], rises: bool) -> bool
     ensures { λ b. ⌜ b ≡ (rises && (connected (registersAt (now (m .entry))) (linesAt (now (m .entry))) && (linesAt (now (m .entry))) .io && (registersAt (now (m .entry))) .sxfrctl1 .enspchk && inboundEven (linesAt (now (m .entry))))) ⌝ }
 {
-    if rises {
-        inbound_bad(m)
-    } else {
-        false
-    }
+    if rises { inbound_bad(m) } else { false }
 }
 
 // "If matched, path and synchronous"

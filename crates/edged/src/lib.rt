@@ -1,13 +1,16 @@
 // Step B, "Edges, in this order", over the chip in the bytes of one array.
 ghost use mathlib.Core.Path.{_≡_};
 ghost use Rattle.rules.specs.Seen.{rstSeen, reqSeen, mismatched};
-ghost use Rattle.image.specs.Image.{registersAt, linesAt, stateAt, IsImage};
-ghost use Rattle.edged.specs.From.{edgesFrom};
+ghost use Rattle.image.specs.Image.{registersAt, linesAt, imageOf, stateAt, IsImage};
+ghost use Rattle.edged.specs.From.{edgesFrom, appliedFrom};
+ghost use Rattle.edged.specs.Room.{Room};
 use crate::last::Before;
+use image::bus::data_seen;
 use image::bus::mismatched;
 use image::bus::rst_seen;
 use rules::chip::Edges;
 
+mod after;
 mod found;
 pub mod last;
 
@@ -48,4 +51,18 @@ pub fn edges_of(m: &[u8; 196], was: Before, ticks: u32) -> Edges
         free: (8 <= quiet) & !(8 <= m[20]),
         quiet: quiet,
     }
+}
+
+// The chip after B. The byte is read before the registers change, the phase is judged after.
+pub fn applied_in(m: &mut [u8; 196], g: Edges, was: Before)
+    requires { ⌜ IsImage (now m) ⌝ }
+    requires { ⌜ Room g ((stateAt (now m)) .transfer) ⌝ }
+    ensures { λ _. ⌜ now (m .exit) ≡ imageOf (appliedFrom g (was .mismatched) (stateAt (now (m .entry)))) ⌝ }
+{
+    let byte = data_seen(m);
+    after::path_in(m, g, byte);
+    after::registers_in(m, g.rstrises, g.paritybad, g.free);
+    let seen = mismatched(m);
+    after::status_in(m, g, seen & !was.mismatched);
+    m[20] = g.quiet;
 }
