@@ -1,0 +1,33 @@
+-- What step A needs of a state and an event, and the state with another host FIFO, SCSI FIFO or counter.
+use Prim.Native.Nat.{ℕ, _+_, _≤_}
+use mathlib.Core.Path.{_≡_}
+use mathlib.Core.Bool.{Bool}
+use mathlib.Core.List.{List, []}
+use lib.ListN.{length}
+use Rattle.rules.specs.State.{State}
+use Rattle.rules.specs.Events.{offered}
+use Rattle.rules.specs.declared.records.Event.{Event}
+use Rattle.image.specs.Image.{withTransfer}
+
+-- the host FIFO has room for what the event offers to the port
+abbrev pub Room : List ℕ → Event → Type 0
+Room host e = length host + length (offered e) ≤ 128
+
+-- the FIFOs and the stack are in their places
+pub record Placed (s : State) : Type 0 where
+  pub host : length (s .transfer .host) ≤ 128
+  pub scsi : length (s .transfer .scsi) ≤ 8
+  pub stack : length (s .stack .bytes) ≡ 32
+
+abbrev pub withHost : List ℕ → State → State
+withHost l s =
+    withTransfer
+    (record {
+      host = l;
+      scsi = s .transfer .scsi;
+      counter = s .transfer .counter;
+      offset = s .transfer .offset;
+      ack = s .transfer .ack;
+      last = s .transfer .last;
+    })
+    s

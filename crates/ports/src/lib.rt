@@ -1,0 +1,3 @@
+// Step A's effect on the data path, in place: the two FIFOs, the counter, the offset and the automatic ACK.
+pub mod host;
+pub mod places;
