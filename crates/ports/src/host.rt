@@ -5,7 +5,9 @@ ghost use Prim.Native.Nat.{_+_, _<_, _≤_};
 ghost use lib.ListN.{getD, set, drop};
 ghost use Rattle.rules.specs.State.{State};
 ghost use Rattle.image.specs.Image.{imageOf, stateAt, IsImage};
-ghost use Rattle.ports.specs.Ready.{Placed, withHost};
+ghost use Rattle.ports.specs.Ready.{Placed, Imaged, withHost};
+use crate::places::moved;
+use crate::places::zeroed;
 
 // One byte more.
 fn push(m: &mut [u8; 196], b: u8)
@@ -24,4 +26,53 @@ pub fn host_pushed(m: &mut [u8; 196], b: u8)
     ensures { λ _. ⌜ now (m .exit) ≡ imageOf (withHost ((stateAt (now (m .entry))) .transfer .host ++ (b ∷ [])) (stateAt (now (m .entry)))) ⌝ }
 {
     push(m, b);
+}
+
+// The rest moved down over the k oldest, and zeros behind it.
+fn pop(m: &mut [u8; 196], k: usize)
+    requires { ⌜ Imaged (now m) ⌝ }
+    requires { ⌜ k ≤ getD (now m) 24 0 ⌝ }
+    ensures { λ _. ⌜ ((s : State) → Placed s → now (m .entry) ≡ imageOf s → now (m .exit) ≡ imageOf (withHost (drop k (s .transfer .host)) s)) ⌝ }
+{
+    let n = m[24] as usize;
+    let rest = n - k;
+    moved(m, 68, k, rest);
+    zeroed(m, 68 + rest, k);
+    m[24] = rest as u8;
+}
+
+pub fn host_popped(m: &mut [u8; 196], k: usize)
+    requires { ⌜ IsImage (now m) ⌝ }
+    requires { ⌜ k ≤ getD (now m) 24 0 ⌝ }
+    ensures { λ _. ⌜ now (m .exit) ≡ imageOf (withHost (drop k ((stateAt (now (m .entry))) .transfer .host)) (stateAt (now (m .entry)))) ⌝ }
+{
+    pop(m, k);
+}
+
+// The k oldest taken off, or all where there are no more.
+fn take_off(m: &mut [u8; 196], k: usize)
+    requires { ⌜ Imaged (now m) ⌝ }
+    ensures { λ _. ⌜ ((s : State) → Placed s → now (m .entry) ≡ imageOf s → now (m .exit) ≡ imageOf (withHost (drop k (s .transfer .host)) s)) ⌝ }
+{
+    let n = m[24] as usize;
+    if n < k {
+        pop(m, n);
+    } else {
+        pop(m, k);
+    }
+}
+
+fn empty(m: &mut [u8; 196])
+    requires { ⌜ Imaged (now m) ⌝ }
+    ensures { λ _. ⌜ ((s : State) → Placed s → now (m .entry) ≡ imageOf s → now (m .exit) ≡ imageOf (withHost [] s)) ⌝ }
+{
+    let n = m[24] as usize;
+    pop(m, n);
+}
+
+pub fn host_emptied(m: &mut [u8; 196])
+    requires { ⌜ IsImage (now m) ⌝ }
+    ensures { λ _. ⌜ now (m .exit) ≡ imageOf (withHost [] (stateAt (now (m .entry)))) ⌝ }
+{
+    empty(m);
 }
