@@ -1,4 +1,4 @@
--- What step A needs of a state and an event, and the state with another host FIFO, SCSI FIFO or counter.
+-- What step A needs of a state and an event, and the state with one part of its data path another.
 use Prim.Native.Nat.{ℕ, _+_, _≤_, _<_}
 use mathlib.Core.Path.{_≡_}
 use mathlib.Core.Bool.{Bool}
@@ -36,6 +36,58 @@ withHost l s =
       counter = s .transfer .counter;
       offset = s .transfer .offset;
       ack = s .transfer .ack;
+      last = s .transfer .last;
+    })
+    s
+
+abbrev pub withScsi : List ℕ → State → State
+withScsi l s =
+    withTransfer
+    (record {
+      host = s .transfer .host;
+      scsi = l;
+      counter = s .transfer .counter;
+      offset = s .transfer .offset;
+      ack = s .transfer .ack;
+      last = s .transfer .last;
+    })
+    s
+
+abbrev pub withCounter : ℕ → State → State
+withCounter n s =
+    withTransfer
+    (record {
+      host = s .transfer .host;
+      scsi = s .transfer .scsi;
+      counter = n;
+      offset = s .transfer .offset;
+      ack = s .transfer .ack;
+      last = s .transfer .last;
+    })
+    s
+
+abbrev pub withOffset : ℕ → State → State
+withOffset n s =
+    withTransfer
+    (record {
+      host = s .transfer .host;
+      scsi = s .transfer .scsi;
+      counter = s .transfer .counter;
+      offset = n;
+      ack = s .transfer .ack;
+      last = s .transfer .last;
+    })
+    s
+
+abbrev pub withAck : Bool → State → State
+withAck b s =
+    withTransfer
+    (record {
+      host = s .transfer .host;
+      scsi = s .transfer .scsi;
+      counter = s .transfer .counter;
+      offset = s .transfer .offset;
+      ack = b;
       last = s .transfer .last;
     })
     s
