@@ -164,6 +164,10 @@ pub moved-length : (m : List ℕ) (at k n : ℕ) {a : List ℕ} → a ≡ paste 
 moved-length m at k n e q h =
     ap length e ∙ length-paste m at (drop (at + k) m) n (omega arith) (simp length-drop (omega arith)) ∙ q
 
+-- a host FIFO that fits its places
+pub with-host : (s : State) (l : List ℕ) → Placed s → length l ≤ 128 → Placed (withHost l s)
+with-host s l p h = record { host = h; scsi = p .scsi; stack = p .stack; counter = p .counter }
+
 pub placed-at : (m : List ℕ) → IsImage m → Placed (stateAt m)
 placed-at m i = record { host = i .range .transfer .host; scsi = i .range .transfer .scsi; stack = i .range .stack .size; counter = i .range .transfer .counter }
 

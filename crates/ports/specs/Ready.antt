@@ -3,7 +3,7 @@ use Prim.Native.Nat.{ℕ, _+_, _≤_, _<_}
 use mathlib.Core.Path.{_≡_}
 use mathlib.Core.Bool.{Bool}
 use mathlib.Core.List.{List, []}
-use lib.ListN.{length}
+use lib.ListN.{length, getD}
 use Rattle.rules.specs.State.{State}
 use Rattle.rules.specs.Counter.{counterSize}
 use Rattle.rules.specs.Events.{offered}
@@ -13,6 +13,10 @@ use Rattle.image.specs.Image.{imageOf, withTransfer}
 -- the host FIFO has room for what the event offers to the port
 abbrev pub Room : List ℕ → Event → Type 0
 Room host e = length host + length (offered e) ≤ 128
+
+-- the same by the count of an image
+abbrev pub RoomAt : List ℕ → Event → Type 0
+RoomAt m e = getD m 24 0 + length (offered e) ≤ 128
 
 -- the FIFOs, the stack and the counter fit their places
 pub record Placed (s : State) : Type 0 where

@@ -4,10 +4,13 @@ ghost use mathlib.Core.List.{[], _∷_, _++_};
 ghost use Prim.Native.Nat.{_+_, _<_, _≤_};
 ghost use lib.ListN.{getD, set, drop};
 ghost use Rattle.rules.specs.State.{State};
+ghost use Rattle.rules.specs.StepA.{hostA};
+ghost use Rattle.rules.specs.declared.records.Event.the-variants.{Write, Read, WordWrite, WordRead};
 ghost use Rattle.image.specs.Image.{imageOf, stateAt, IsImage};
-ghost use Rattle.ports.specs.Ready.{Placed, Imaged, withHost};
+ghost use Rattle.ports.specs.Ready.{RoomAt, Placed, Imaged, withHost};
 use crate::places::moved;
 use crate::places::zeroed;
+use rules::map::Register;
 
 // One byte more.
 fn push(m: &mut [u8; 196], b: u8)
@@ -75,4 +78,45 @@ pub fn host_emptied(m: &mut [u8; 196])
     ensures { λ _. ⌜ now (m .exit) ≡ imageOf (withHost [] (stateAt (now (m .entry)))) ⌝ }
 {
     empty(m);
+}
+
+// A byte through the port goes behind; "RSTFIFO empties the host FIFO".
+pub fn host_written(m: &mut [u8; 196], offset: u8, value: u8)
+    requires { ⌜ Imaged (now m) ⌝ }
+    requires { ⌜ RoomAt (now m) (Write offset value) ⌝ }
+    ensures { λ _. ⌜ ((s : State) → Placed s → now (m .entry) ≡ imageOf s → now (m .exit) ≡ imageOf (withHost (hostA (Write offset value) (s .transfer .host)) s)) ⌝ }
+{
+    if offset == map::offset_of(Register::DMADATA) {
+        push(m, value);
+        return;
+    }
+    if (offset == map::offset_of(Register::DMACNTRL0)) & ((value >> 1) % 2 == 1) {
+        empty(m);
+    }
+}
+
+pub fn host_read(m: &mut [u8; 196], offset: u8)
+    requires { ⌜ Imaged (now m) ⌝ }
+    ensures { λ _. ⌜ ((s : State) → Placed s → now (m .entry) ≡ imageOf s → now (m .exit) ≡ imageOf (withHost (hostA (Read offset) (s .transfer .host)) s)) ⌝ }
+{
+    if offset == map::offset_of(Register::DMADATA) {
+        take_off(m, 1);
+    }
+}
+
+// "A word's low byte comes first."
+pub fn word_written(m: &mut [u8; 196], word: u16)
+    requires { ⌜ Imaged (now m) ⌝ }
+    requires { ⌜ RoomAt (now m) (WordWrite word) ⌝ }
+    ensures { λ _. ⌜ ((s : State) → Placed s → now (m .entry) ≡ imageOf s → now (m .exit) ≡ imageOf (withHost (hostA (WordWrite word) (s .transfer .host)) s)) ⌝ }
+{
+    push(m, (word % 256) as u8);
+    push(m, (word / 256) as u8);
+}
+
+pub fn word_read(m: &mut [u8; 196])
+    requires { ⌜ Imaged (now m) ⌝ }
+    ensures { λ _. ⌜ ((s : State) → Placed s → now (m .entry) ≡ imageOf s → now (m .exit) ≡ imageOf (withHost (hostA WordRead (s .transfer .host)) s)) ⌝ }
+{
+    take_off(m, 2);
 }
