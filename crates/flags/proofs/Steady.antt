@@ -1,6 +1,6 @@
 -- Where no latch is set: no interrupt is enabled, or enables and statuses are as before.
 use Prim.Native.Nat.{ℕ}
-use mathlib.Core.Path.{_≡_, refl}
+use mathlib.Core.Path.{_≡_, refl, _∙_}
 use mathlib.Core.Bool.{Bool, true, false, not, _&&_, _||_, or-false, false≢true}
 use mathlib.Core.List.{List}
 use lib.Dec.{eqb}
@@ -14,7 +14,8 @@ use Rattle.rules.specs.declared.registers.Simode0.{Simode0}
 use Rattle.rules.specs.declared.registers.Simode1.{Simode1}
 use Rattle.rules.specs.declared.chip.Status.{Status}
 use Rattle.rules.specs.declared.chip.Latches.{Latches}
-use Rattle.image.specs.Image.{stateAt, statusOf, latchesOf}
+use Rattle.image.specs.Image.{imageOf, stateAt, statusOf, latchesOf, withLatches}
+use Rattle.flags.proofs.Placed.{latches-as}
 use Rattle.flags.specs.Latching.{latchesFrom, anyEnable}
 
 -- the latches after D look at 350h and 351h only
@@ -86,3 +87,7 @@ latches-same b0 r0 b1 r1 status raised k h =
 pub latches-from-at : (m : List ℕ) (b0 b1 status raised : ℕ) → latchesFrom (simode0Of b0) (simode1Of b1) (simode0Of (getD m 7 0)) (simode1Of (getD m 8 0)) (statusOf status) (statusOf raised) (latchesOf (getD m 13 0)) ≡ latchesFrom (simode0Of b0) (simode1Of b1) (stateAt m .registers .simode0) (stateAt m .registers .simode1) (statusOf status) (statusOf raised) (stateAt m .latches)
 unfolding stateAt
 latches-from-at m b0 b1 status raised = refl
+
+-- what the code stores is what is to stand there
+pub latches-made : (m : List ℕ) (b0 b1 status raised : ℕ) {k : Latches} {n : List ℕ} → k ≡ latchesFrom (simode0Of b0) (simode1Of b1) (simode0Of (getD m 7 0)) (simode1Of (getD m 8 0)) (statusOf status) (statusOf raised) (latchesOf (getD m 13 0)) → n ≡ imageOf (withLatches k (stateAt m)) → n ≡ imageOf (withLatches (latchesFrom (simode0Of b0) (simode1Of b1) (stateAt m .registers .simode0) (stateAt m .registers .simode1) (statusOf status) (statusOf raised) (stateAt m .latches)) (stateAt m))
+latches-made m b0 b1 status raised e h = latches-as (stateAt m) (e ∙ latches-from-at m b0 b1 status raised) h

@@ -42,16 +42,27 @@ fn latches_written(k: Latches, offset: u8, value: u8) -> Latches
     }
 }
 
+// Most writes are to other registers.
+fn latches_written_in(m: &mut [u8; 196], offset: u8, value: u8)
+    requires { ⌜ IsImage (now m) ⌝ }
+    ensures { λ _. ⌜ now (m .exit) ≡ imageOf (withLatches (latchesA ((stateAt (now (m .entry))) .latches) (Write offset value)) (stateAt (now (m .entry)))) ⌝ }
+{
+    let clears = offset == map::offset_of(Register::CLRSINT1);
+    let ready = offset == map::offset_of(Register::CLRSINT0);
+    if !(clears | ready) {
+        return;
+    }
+    let k = latches_written(latches_of(m[13]), offset, value);
+    latches_put(m, k);
+}
+
 // Only a write clears a latch.
 pub fn latches_in(m: &mut [u8; 196], e: Event)
     requires { ⌜ IsImage (now m) ⌝ }
     ensures { λ _. ⌜ now (m .exit) ≡ imageOf (withLatches (latchesA ((stateAt (now (m .entry))) .latches) e) (stateAt (now (m .entry)))) ⌝ }
 {
     match e {
-        Event::Write { offset, value } => {
-            let k = latches_written(latches_of(m[13]), offset, value);
-            latches_put(m, k);
-        }
+        Event::Write { offset, value } => latches_written_in(m, offset, value),
         _ => {}
     }
 }
@@ -81,19 +92,19 @@ fn latches_from(
     b1: Simode1,
     r0: Simode0,
     r1: Simode1,
-    status: Status,
+    t: Status,
     raised: Status,
     k: Latches,
 ) -> Latches
-    ensures { λ n. ⌜ n ≡ latchesFrom b0 b1 r0 r1 status raised k ⌝ }
+    ensures { λ n. ⌜ n ≡ latchesFrom b0 b1 r0 r1 t raised k ⌝ }
 {
     Latches {
-        spiordy: k.spiordy | sets(r0.enspiordy, b0.enspiordy, status.spiordy, raised.spiordy),
-        scsirsti: k.scsirsti | sets(r1.enscsirst, b1.enscsirst, status.scsirsti, raised.scsirsti),
-        busfree: k.busfree | sets(r1.enbusfree, b1.enbusfree, status.busfree, raised.busfree),
-        scsiperr: k.scsiperr | sets(r1.enscsiperr, b1.enscsiperr, status.scsiperr, raised.scsiperr),
-        phasechg: k.phasechg | sets(r1.enphasechg, b1.enphasechg, status.phasechg, raised.phasechg),
-        reqinit: k.reqinit | sets(r1.enreqinit, b1.enreqinit, status.reqinit, raised.reqinit),
+        spiordy: k.spiordy | sets(r0.enspiordy, b0.enspiordy, t.spiordy, raised.spiordy),
+        scsirsti: k.scsirsti | sets(r1.enscsirst, b1.enscsirst, t.scsirsti, raised.scsirsti),
+        busfree: k.busfree | sets(r1.enbusfree, b1.enbusfree, t.busfree, raised.busfree),
+        scsiperr: k.scsiperr | sets(r1.enscsiperr, b1.enscsiperr, t.scsiperr, raised.scsiperr),
+        phasechg: k.phasechg | sets(r1.enphasechg, b1.enphasechg, t.phasechg, raised.phasechg),
+        reqinit: k.reqinit | sets(r1.enreqinit, b1.enreqinit, t.reqinit, raised.reqinit),
     }
 }
 

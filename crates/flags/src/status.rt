@@ -73,10 +73,17 @@ fn status_kept_in(m: &mut [u8; 196], accessed: bool, acked: bool)
     status_put(m, t);
 }
 
+// Most writes are to other registers.
 fn status_written_in(m: &mut [u8; 196], accessed: bool, acked: bool, offset: u8, value: u8)
     requires { ⌜ IsImage (now m) ⌝ }
     ensures { λ _. ⌜ now (m .exit) ≡ imageOf (withStatus (statusA accessed acked ((stateAt (now (m .entry))) .registers .sxfrctl1 .enspchk) ((stateAt (now (m .entry))) .status) (Write offset value)) (stateAt (now (m .entry)))) ⌝ }
 {
+    let clears = offset == map::offset_of(Register::CLRSINT1);
+    let errors = offset == map::offset_of(Register::CLRSERR);
+    if !(clears | errors) {
+        status_kept_in(m, accessed, acked);
+        return;
+    }
     let enspchk = (m[2] >> 5) % 2 == 1;
     let t = status_written(accessed, acked, enspchk, status_of(m[12]), offset, value);
     status_put(m, t);

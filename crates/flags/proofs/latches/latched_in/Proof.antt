@@ -2,9 +2,9 @@ use mathlib.Core.Path.{_∙_}
 use lib.ListN.{getD}
 use borrow.Author.Needs.{needs}
 use Rattle.rules.specs.Registers.{simode0Of, simode1Of}
-use Rattle.image.specs.Image.{stateAt, statusOf, latchesOf}
-use Rattle.flags.proofs.Placed.{latches-left, latches-as, latches-at}
-use Rattle.flags.proofs.Steady.{latches-masked, latches-same, latches-from-at}
+use Rattle.image.specs.Image.{statusOf, latchesOf}
+use Rattle.flags.proofs.Placed.{latches-left, latches-at}
+use Rattle.flags.proofs.Steady.{latches-masked, latches-same, latches-from-at, latches-made}
 use Rattle.flags.proofs.latches.latched_in.Statement.{statement}
 use Rattle.flags.proofs.latches.latched_in.Tie as tie
 
@@ -28,7 +28,7 @@ returns-3 c =
     let start = made .before .before .before .before .before .before .before in
     let a = start .args in
     let m = a .m .now in
-    latches-as (stateAt m) (latches-from-at m (a .before0) (a .before1) (a .status) (a .raised)) (latches-as (stateAt m) (made .latches-of-bytes .ensures) (c .latches-put .ensures))
+    latches-made m (a .before0) (a .before1) (a .status) (a .raised) (made .latches-of-bytes .ensures) (c .latches-put .ensures)
 
 pub latched-in-spec : {M : Type 1} → statement M
 latched-in-spec = tie.close (tie.spec (λ c. search needs) (λ c. search needs) (λ c κs. search needs) returns returns-2 (λ c. search needs) (λ c κs. search needs) (λ c κs. search needs) returns-3)

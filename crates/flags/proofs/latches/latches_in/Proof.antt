@@ -1,16 +1,11 @@
 use borrow.Author.Needs.{needs}
-use Rattle.flags.proofs.Placed.{latches-left, latches-at}
+use Rattle.flags.proofs.Placed.{latches-left}
 use Rattle.flags.proofs.Unwritten.{latches-unwritten}
 use Rattle.flags.proofs.latches.latches_in.Statement.{statement}
 use Rattle.flags.proofs.latches.latches_in.Tie as tie
 
 returns : tie.Need-returns
-returns c =
-    let written = c .before .before in
-    let unpacked = written .before in
-    let known = unpacked .before .before .before in
-    let start = known .before .before in
-    rw (latches-at (start .args .m .now), known .e .given .1, ← unpacked .latches-of .ensures, ← written .latches-written .ensures) (c .latches-put .ensures)
+returns c = rw (c .before .before .before .e .given .1) (c .latches-written-in .ensures)
 
 returns-2 : tie.Need-returns-2
 returns-2 c =
@@ -18,6 +13,4 @@ returns-2 c =
     latches-left (a .m .now) (c .before .pre) _ (latches-unwritten _ (a .e) (c .match .keys2))
 
 pub latches-in-spec : {M : Type 1} → statement M
-latches-in-spec =
-    tie.close
-    (tie.spec (λ c. search needs) (λ c. search needs) (λ c κs. search needs) (λ c κs. search needs) (λ c κs. search needs) returns returns-2)
+latches-in-spec = tie.close (tie.spec (λ c. search needs) (λ c κs. search needs) returns returns-2)
