@@ -1,6 +1,7 @@
 -- An image is what stands before the host FIFO, and the host FIFO's places.
 use Prim.Native.Nat.{ℕ, _+_, _-_, _<_, _≤_}
 use mathlib.Core.Path.{_≡_, refl, ap, sym, _∙_}
+use mathlib.Core.Bool.{Bool, true, false, cond}
 use mathlib.Core.List.{List, [], _∷_, _++_, append-assoc, append-nil}
 use native.Mathlib.Omega.{arith}
 use native.Mathlib.Nat.{zero-add, suc-add, add-assoc}
@@ -10,7 +11,7 @@ use Rattle.rules.specs.Numbers.{padded}
 use Rattle.rules.specs.State.{State}
 use Rattle.laws.proofs.Lists.{padded-push, padded-length}
 use Rattle.image.specs.Image.{imageOf, headOf, stateAt, IsImage}
-use Rattle.ports.specs.Ready.{Placed, Imaged, withHost}
+use Rattle.ports.specs.Ready.{Placed, Imaged, withHost, withScsi, withOffset}
 
 abbrev pub frontOf : State → List ℕ
 frontOf s = headOf s ++ padded 8 (s .transfer .scsi) ++ s .stack .bytes
@@ -167,6 +168,11 @@ moved-length m at k n e q h =
 -- a host FIFO that fits its places
 pub with-host : (s : State) (l : List ℕ) → Placed s → length l ≤ 128 → Placed (withHost l s)
 with-host s l p h = record { host = h; scsi = p .scsi; stack = p .stack; counter = p .counter }
+
+-- the channel, cleared or not
+pub with-channel : (s : State) (b : Bool) → Placed s → Placed (withOffset (cond b 0 (s .transfer .offset)) (withScsi (cond b [] (s .transfer .scsi)) s))
+with-channel s true p = record { host = p .host; scsi = omega arith; stack = p .stack; counter = p .counter }
+with-channel s false p = record { host = p .host; scsi = p .scsi; stack = p .stack; counter = p .counter }
 
 pub placed-at : (m : List ℕ) → IsImage m → Placed (stateAt m)
 placed-at m i = record { host = i .range .transfer .host; scsi = i .range .transfer .scsi; stack = i .range .stack .size; counter = i .range .transfer .counter }
