@@ -1,6 +1,6 @@
 -- What each access does to the host FIFO, the counter and the channel.
 use Prim.Native.Nat.{ℕ, _+_, _≤_, _<_, _%_, _/_}
-use mathlib.Core.Path.{_≡_, refl, ap, sym, _∙_}
+use mathlib.Core.Path.{_≡_, refl, sym}
 use mathlib.Core.Bool.{Bool, true, false, _&&_, cond}
 use mathlib.Core.List.{List, [], _∷_, _++_, append-assoc}
 use native.Mathlib.Omega.{arith}

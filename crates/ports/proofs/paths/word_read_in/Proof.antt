@@ -1,6 +1,5 @@
-use mathlib.Core.Path.{_≡_, refl}
+use mathlib.Core.Path.{refl}
 use borrow.Author.Needs.{needs}
-use lib.ListN.{length}
 use Rattle.rules.specs.Events.{writes, offered}
 use Rattle.rules.specs.StepA.{transferA, counterA, clrstcnt, clrch}
 use Rattle.rules.specs.declared.records.Event.the-variants.{WordRead}

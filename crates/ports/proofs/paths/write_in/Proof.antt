@@ -1,4 +1,3 @@
-use mathlib.Core.Path.{_≡_}
 use borrow.Author.Needs.{needs}
 use Rattle.rules.specs.StepA.{transferA, clrch}
 use Rattle.rules.specs.declared.records.Event.the-variants.{Write}
