@@ -1,6 +1,6 @@
 -- What each access does to the host FIFO, the counter and the channel.
 use Prim.Native.Nat.{ℕ, _+_, _≤_, _<_, _%_, _/_}
-use mathlib.Core.Path.{_≡_, refl, ap, sym, _∙_}
+use mathlib.Core.Path.{_≡_, refl, sym}
 use mathlib.Core.Bool.{Bool, true, false, _&&_, cond}
 use mathlib.Core.List.{List, [], _∷_, _++_, append-assoc}
 use native.Mathlib.Omega.{arith}
@@ -9,12 +9,15 @@ use lib.ListN.{length, drop, length-append, length-drop}
 use Rattle.rules.specs.Numbers.{bit}
 use Rattle.rules.specs.Map.{offsetOf}
 use Rattle.rules.specs.Events.{writes, valueOf, offered, asked, portWrite}
+use Rattle.rules.specs.State.{State}
 use Rattle.rules.specs.Counter.{counted, counterWith}
 use Rattle.rules.specs.StepA.{rstfifo, clrch, clrstcnt, hostA, counterA}
 use Rattle.rules.specs.declared.map.Register.the-variants.{SXFRCTL0, STCNT0, STCNT1, STCNT2, DMADATA, DMACNTRL0}
 use Rattle.rules.specs.declared.records.Event.{Event}
 use Rattle.rules.specs.declared.records.Event.the-variants.{Write, Read, WordWrite, WordRead}
-use Rattle.ports.specs.Ready.{Room}
+use Rattle.image.specs.Image.{imageOf}
+use Rattle.ports.specs.Ready.{Room, RoomAt, Placed, withHost}
+use Rattle.ports.proofs.Fronts.{counted as counted-host, with-host, count-fits}
 
 module _ (l : List ℕ) (o v : ℕ) where
   pub byte-offered : (n : ℕ) → o ≡ offsetOf DMADATA → n + length (offered (Write o v)) ≤ 128 → n < 128
@@ -96,3 +99,18 @@ module _ (acked : Bool) (o v n : ℕ) where
 pub channel-clear : (o v : ℕ) {b : Bool} → (eqb o (offsetOf SXFRCTL0) && bit v 1) ≡ b → clrch (Write o v) ≡ b
 unfolding clrch writes valueOf
 channel-clear o v e = e
+
+-- what was fitting before an event that there is room for is fitting after it
+module _ {m : List ℕ} {s : State} (p : Placed s) (q : m ≡ imageOf s) (e : Event) where
+  pub room : RoomAt m e → Room (s .transfer .host) e
+  room h = rw (counted-host p q) at h
+
+  pub room-at : Room (s .transfer .host) e → RoomAt m e
+  room-at h = rw (counted-host p q) h
+
+  pub host-placed : RoomAt m e → Placed (withHost (hostA e (s .transfer .host)) s)
+  host-placed h = with-host s (hostA e (s .transfer .host)) p (host-fits e (s .transfer .host) (room h) (p .host))
+
+-- an event that offers nothing finds room
+pub no-offer : {m : List ℕ} {s : State} (p : Placed s) (q : m ≡ imageOf s) (e : Event) → length (offered e) ≡ 0 → RoomAt m e
+no-offer p q e z = omega (arith, z, count-fits p q)

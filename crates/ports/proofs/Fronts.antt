@@ -1,7 +1,8 @@
 -- An image is what stands before the host FIFO, and the host FIFO's places.
 use Prim.Native.Nat.{ℕ, _+_, _-_, _<_, _≤_}
 use mathlib.Core.Path.{_≡_, refl, ap, sym, _∙_}
-use mathlib.Core.List.{List, [], _∷_, _++_, append-assoc, append-nil}
+use mathlib.Core.Bool.{Bool, true, false, cond}
+use mathlib.Core.List.{List, [], _∷_, _++_, append-assoc}
 use native.Mathlib.Omega.{arith}
 use native.Mathlib.Nat.{zero-add, suc-add, add-assoc}
 use lib.ListN.{length, drop-of-length-le, take, drop, set, getD, replicate, length-append, length-drop, length-replicate, replicate-append-replicate}
@@ -10,7 +11,7 @@ use Rattle.rules.specs.Numbers.{padded}
 use Rattle.rules.specs.State.{State}
 use Rattle.laws.proofs.Lists.{padded-push, padded-length}
 use Rattle.image.specs.Image.{imageOf, headOf, stateAt, IsImage}
-use Rattle.ports.specs.Ready.{Placed, Imaged, withHost}
+use Rattle.ports.specs.Ready.{Placed, Imaged, withHost, withScsi, withOffset}
 
 abbrev pub frontOf : State → List ℕ
 frontOf s = headOf s ++ padded 8 (s .transfer .scsi) ++ s .stack .bytes
@@ -43,11 +44,11 @@ host-pushed s b p h =
     let l : List ℕ = s .transfer .host in
     let f : length (frontOf s) ≡ 68 = front-length s p in
     let n : length l + 1 ≡ length (l ++ (b ∷ [])) = sym (length-append l (b ∷ [])) in
-    let e : set (imageOf s) (68 + length l) b ≡ frontOf s ++ padded 128 (l ++ (b ∷ [])) = 
-        ap (λ (m : List ℕ). set m (68 + length l) b) (image-split s)
-        ∙ ap (λ (j : ℕ). set (frontOf s ++ padded 128 l) (j + length l) b) (sym f)
-        ∙ set-past (frontOf s) (padded 128 l) (length l) b
-        ∙ ap (λ (q : List ℕ). frontOf s ++ q) (padded-push 128 l b h)
+    let e : set (imageOf s) (68 + length l) b ≡ frontOf s ++ padded 128 (l ++ (b ∷ [])) =
+    ap (λ (m : List ℕ). set m (68 + length l) b) (image-split s)
+    ∙ ap (λ (j : ℕ). set (frontOf s ++ padded 128 l) (j + length l) b) (sym f)
+    ∙ set-past (frontOf s) (padded 128 l) (length l) b
+    ∙ ap (λ (q : List ℕ). frontOf s ++ q) (padded-push 128 l b h)
     in
     ap (λ (m : List ℕ). set m 24 (length l + 1)) e
     ∙ ap (λ (j : ℕ). set (frontOf s ++ padded 128 (l ++ (b ∷ []))) 24 j) n
@@ -88,7 +89,7 @@ module _ (l : List ℕ) (k : ℕ) (h : k ≤ length l) (b : length l ≤ 128) wh
   unfolding padded
   rest-padded =
       let n : k + (128 - length l) ≡ 128 - length (drop k l) = simp length-drop (omega arith) in
-      append-assoc (drop k l) (replicate k 0) free ∙ ap (λ (y : List ℕ). drop k l ++ y) (replicate-append-replicate k (128 - length l) 0 ∙ ap (λ (j : ℕ). replicate j 0) n)
+      rw (append-assoc (drop k l) (replicate {A = ℕ} k 0) free, replicate-append-replicate {A = ℕ} k (128 - length l) 0, n)
 
   pub popped-places : paste (paste (padded 128 l) 0 (drop k (padded 128 l)) (length l - k)) (length l - k) (replicate k 0) k ≡ padded 128 (drop k l)
   unfolding padded
@@ -108,10 +109,10 @@ host-popped s k p h =
     let a : paste (x ++ q) 68 (drop k q) r ≡ x ++ paste q 0 (drop k q) r = paste-at x q (drop k q) 68 0 r f in
     let b : paste (x ++ paste q 0 (drop k q) r) (68 + r) (replicate k 0) k ≡ x ++ paste (paste q 0 (drop k q) r) r (replicate k 0) k = paste-at x (paste q 0 (drop k q) r) (replicate k 0) 68 r k f in
     let g : paste (paste (x ++ q) 68 (drop (68 + k) (x ++ q)) r) (68 + r) (replicate k 0) k ≡ x ++ padded 128 (drop k l) =
-        ap (λ (y : List ℕ). paste (paste (x ++ q) 68 y r) (68 + r) (replicate k 0) k) d
-        ∙ ap (λ (y : List ℕ). paste y (68 + r) (replicate k 0) k) a
-        ∙ b
-        ∙ ap (λ (y : List ℕ). x ++ y) (popped-places l k h (p .host))
+    ap (λ (y : List ℕ). paste (paste (x ++ q) 68 y r) (68 + r) (replicate k 0) k) d
+    ∙ ap (λ (y : List ℕ). paste y (68 + r) (replicate k 0) k) a
+    ∙ b
+    ∙ ap (λ (y : List ℕ). x ++ y) (popped-places l k h (p .host))
     in
     ap (λ (y : List ℕ). set (paste (paste y 68 (drop (68 + k) y) r) (68 + r) (replicate k 0) k) 24 r) (image-split s)
     ∙ ap (λ (y : List ℕ). set y 24 r) g
@@ -167,6 +168,11 @@ moved-length m at k n e q h =
 -- a host FIFO that fits its places
 pub with-host : (s : State) (l : List ℕ) → Placed s → length l ≤ 128 → Placed (withHost l s)
 with-host s l p h = record { host = h; scsi = p .scsi; stack = p .stack; counter = p .counter }
+
+-- the channel, cleared or not
+pub with-channel : (s : State) (b : Bool) → Placed s → Placed (withOffset (cond b 0 (s .transfer .offset)) (withScsi (cond b [] (s .transfer .scsi)) s))
+with-channel s true p = record { host = p .host; scsi = omega arith; stack = p .stack; counter = p .counter }
+with-channel s false p = record { host = p .host; scsi = p .scsi; stack = p .stack; counter = p .counter }
 
 pub placed-at : (m : List ℕ) → IsImage m → Placed (stateAt m)
 placed-at m i = record { host = i .range .transfer .host; scsi = i .range .transfer .scsi; stack = i .range .stack .size; counter = i .range .transfer .counter }

@@ -1,10 +1,10 @@
 -- The loops that overwrite places one by one, over the list and what is written.
 use Prim.Native.Nat.{ℕ, _+_, _<_, _≤_}
-use mathlib.Core.Path.{_≡_, refl, ap, sym, _∙_}
+use mathlib.Core.Path.{_≡_, ap, sym, _∙_}
 use mathlib.Core.List.{List}
 use native.Mathlib.Omega.{arith}
 use native.Mathlib.Numerals.{add-one}
-use lib.ListN.{length, set, getD, drop}
+use lib.ListN.{length, set, getD}
 use lib.Seq.{paste, paste-zero, paste-suc, drop-paste, getD-drop}
 
 -- i of the first n of s stand from a place of m on

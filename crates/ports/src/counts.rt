@@ -1,8 +1,7 @@
 // The counter of an image: three bytes from 25 on, the lowest first; and the automatic ACK, at 18.
 ghost use mathlib.Core.Path.{_≡_};
 ghost use mathlib.Core.Bool.{true};
-ghost use Prim.Native.Nat.{_+_, _*_, _<_};
-ghost use lib.ListN.{set};
+ghost use Prim.Native.Nat.{_+_, _*_};
 ghost use Rattle.rules.specs.State.{State};
 ghost use Rattle.rules.specs.Counter.{counted, counterWith};
 ghost use Rattle.image.specs.Image.{imageOf};

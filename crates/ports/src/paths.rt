@@ -73,3 +73,56 @@ fn counted_in(m: &mut [u8; 196], acked: bool)
         acknowledged(m);
     }
 }
+
+fn write_in(m: &mut [u8; 196], acked: bool, offset: u8, value: u8)
+    requires { ⌜ Imaged (now m) ⌝ }
+    requires { ⌜ RoomAt (now m) (Write offset value) ⌝ }
+    ensures { λ _. ⌜ ((s : State) → Placed s → now (m .entry) ≡ imageOf s → now (m .exit) ≡ imageOf (withTransfer (transferA acked (s .transfer) (Write offset value)) s)) ⌝ }
+{
+    host_written(m, offset, value);
+    channel_written(m, offset, value);
+    counter_written(m, acked, offset, value);
+    ack_turned(m, acked);
+}
+
+fn read_in(m: &mut [u8; 196], acked: bool, offset: u8)
+    requires { ⌜ Imaged (now m) ⌝ }
+    ensures { λ _. ⌜ ((s : State) → Placed s → now (m .entry) ≡ imageOf s → now (m .exit) ≡ imageOf (withTransfer (transferA acked (s .transfer) (Read offset)) s)) ⌝ }
+{
+    host_read(m, offset);
+    counted_in(m, acked);
+}
+
+fn word_write_in(m: &mut [u8; 196], acked: bool, word: u16)
+    requires { ⌜ Imaged (now m) ⌝ }
+    requires { ⌜ RoomAt (now m) (WordWrite word) ⌝ }
+    ensures { λ _. ⌜ ((s : State) → Placed s → now (m .entry) ≡ imageOf s → now (m .exit) ≡ imageOf (withTransfer (transferA acked (s .transfer) (WordWrite word)) s)) ⌝ }
+{
+    word_written(m, word);
+    counted_in(m, acked);
+}
+
+fn word_read_in(m: &mut [u8; 196], acked: bool)
+    requires { ⌜ Imaged (now m) ⌝ }
+    ensures { λ _. ⌜ ((s : State) → Placed s → now (m .entry) ≡ imageOf s → now (m .exit) ≡ imageOf (withTransfer (transferA acked (s .transfer) WordRead) s)) ⌝ }
+{
+    word_read(m);
+    counted_in(m, acked);
+}
+
+// "A. The event's own effect." on the data path; an event that is no access leaves it, but for an ACK.
+pub fn path_in(m: &mut [u8; 196], acked: bool, e: Event)
+    requires { ⌜ IsImage (now m) ⌝ }
+    requires { ⌜ Room ((stateAt (now m)) .transfer .host) e ⌝ }
+    ensures { λ _. ⌜ now (m .exit) ≡ imageOf (withTransfer (transferA acked ((stateAt (now (m .entry))) .transfer) e) (stateAt (now (m .entry)))) ⌝ }
+{
+    match e {
+        Event::PowerReset => counted_in(m, acked),
+        Event::Write { offset, value } => write_in(m, acked, offset, value),
+        Event::Read { offset } => read_in(m, acked, offset),
+        Event::WordWrite(word) => word_write_in(m, acked, word),
+        Event::WordRead => word_read_in(m, acked),
+        Event::Drive(_) => counted_in(m, acked),
+        Event::Ticks(_) => counted_in(m, acked),
+    }
+}

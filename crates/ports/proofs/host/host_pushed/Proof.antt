@@ -1,4 +1,4 @@
-use mathlib.Core.Path.{_≡_, _∙_}
+use mathlib.Core.Path.{_∙_}
 use borrow.Author.Needs.{needs}
 use Rattle.ports.proofs.Fronts.{pushed, placed-at}
 use Rattle.ports.proofs.host.host_pushed.Statement.{statement}

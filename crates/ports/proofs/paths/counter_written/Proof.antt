@@ -1,11 +1,10 @@
 use Prim.Native.Nat.{ℕ}
 use mathlib.Core.Path.{_≡_, ap, sym, _∙_}
-use mathlib.Core.Bool.{false, cond}
+use mathlib.Core.Bool.{false}
 use borrow.Author.Needs.{needs}
 use borrow.Author.Tests.{ne-eqb}
 use lib.Dec.{eqb}
 use Rattle.rules.specs.Map.{offsetOf}
-use Rattle.rules.specs.Counter.{counted}
 use Rattle.rules.specs.declared.map.Register.{Register}
 use Rattle.rules.specs.declared.map.Register.the-variants.{STCNT0, STCNT1, STCNT2}
 use Rattle.image.specs.Image.{imageOf}

@@ -4,7 +4,6 @@ use mathlib.Core.List.{List}
 use native.Mathlib.Omega.{arith}
 use lib.ListN.{drop, getD, length-drop}
 use lib.Seq.{getD-drop}
-use borrow.Author.Needs.{needs}
 use Rattle.ports.proofs.Pasted.{Pasted, begun, again, behind, ended}
 use Rattle.ports.proofs.places.moved.Statement.{statement}
 use Rattle.ports.proofs.places.moved.Tie as tie

@@ -1,8 +1,7 @@
 use Prim.Native.Nat.{_-_}
-use mathlib.Core.Path.{_≡_, refl, sym}
+use mathlib.Core.Path.{refl, sym}
 use native.Mathlib.Omega.{arith}
 use lib.ListN.{replicate, length-replicate, getD-replicate}
-use borrow.Author.Needs.{needs}
 use Rattle.ports.proofs.Pasted.{Pasted, begun, again, ended}
 use Rattle.ports.proofs.places.zeroed.Statement.{statement}
 use Rattle.ports.proofs.places.zeroed.Tie as tie
