@@ -1,55 +1,33 @@
--- The states between the parts of C and D.
-use mathlib.Core.Path.{_≡_, refl}
+-- C and D as the code goes through them.
+use mathlib.Core.Path.{_≡_, refl, ap, sym, _∙_}
 use Rattle.rules.specs.State.{State}
-use Rattle.rules.specs.Seen.{ackSeen}
 use Rattle.rules.specs.StepA.{afterA}
 use Rattle.rules.specs.StepB.{afterB}
 use Rattle.rules.specs.StepC.{settledC}
-use Rattle.rules.specs.StepD.{statusRaised, statusD, latchesD, finished, afterD}
-use Rattle.rules.specs.Ranges.{InRange, InBytes, TransferFits, TransferBytes}
+use Rattle.rules.specs.StepD.{finished, afterD}
+use Rattle.rules.specs.Ranges.{InRange, InBytes}
 use Rattle.rules.specs.declared.records.Event.{Event}
-use Rattle.image.specs.Image.{withTransfer, withStatus, withLatches}
+use Rattle.rules.specs.declared.chip.Latches.{Latches}
+use Rattle.rules.proofs.Ranges.{settled-fits, settled-bytes}
+use Rattle.image.specs.Image.{withTransfer, withLatches}
+use Rattle.flags.proofs.Steady.{latches-from-registers}
+use Rattle.turns.specs.Closing.{raisedBy, fallenBy, closedBy}
 
 module _ (s : State) (e : Event) where
+  -- what settling leaves
   abbrev pub settledState : State
   settledState = withTransfer ((settledC s e) .transfer) (afterB s e)
 
-  abbrev pub raisedState : State
-  raisedState =
-      withStatus (statusRaised (settledState .registers) (settledState .lines) (settledState .transfer) (settledState .status)) settledState
+  pub settled-range : InRange (afterB s e) → InRange settledState
+  settled-range i = record { registers = i .registers; transfer = settled-fits s e i; stack = i .stack; quiet = i .quiet; identity = i .identity }
 
-  abbrev pub fallenState : State
-  fallenState =
-      withStatus
-      (statusD ((settledC s e) .acks) (ackSeen (raisedState .registers) (raisedState .lines) (raisedState .transfer)) (raisedState .status))
-      raisedState
+  pub settled-in-bytes : InBytes (afterB s e) → InBytes settledState
+  settled-in-bytes j = record { lines = j .lines; registers = j .registers; transfer = settled-bytes s e j .transfer; stack = j .stack }
 
-  abbrev pub latchedState : State
-  latchedState =
-      withLatches
-      (latchesD (s .registers) (fallenState .registers) ((afterA s e) .status) (raisedState .status) (fallenState .latches))
-      fallenState
-
-  pub all-of-d : latchedState ≡ afterD s e
-  unfolding afterD finished
-  all-of-d = refl
-
-  module _ (i : InRange (afterB s e)) (f : TransferFits ((settledC s e) .transfer)) where
-    pub settled-range : InRange settledState
-    settled-range = record { registers = i .registers; transfer = f; stack = i .stack; quiet = i .quiet; identity = i .identity }
-
-    pub raised-range : InRange raisedState
-    raised-range = record { registers = i .registers; transfer = f; stack = i .stack; quiet = i .quiet; identity = i .identity }
-
-    pub fallen-range : InRange fallenState
-    fallen-range = record { registers = i .registers; transfer = f; stack = i .stack; quiet = i .quiet; identity = i .identity }
-
-  module _ (i : InBytes (afterB s e)) (f : TransferBytes ((settledC s e) .transfer)) where
-    pub settled-in-bytes : InBytes settledState
-    settled-in-bytes = record { lines = i .lines; registers = i .registers; transfer = f; stack = i .stack }
-
-    pub raised-in-bytes : InBytes raisedState
-    raised-in-bytes = record { lines = i .lines; registers = i .registers; transfer = f; stack = i .stack }
-
-    pub fallen-in-bytes : InBytes fallenState
-    fallen-in-bytes = record { lines = i .lines; registers = i .registers; transfer = f; stack = i .stack }
+  pub all-of-d : closedBy (s .registers .simode0) (s .registers .simode1) ((afterA s e) .status) ((settledC s e) .acks) settledState ≡ afterD s e
+  unfolding closedBy afterD finished
+  all-of-d =
+      let raised = raisedBy settledState in
+      let fallen = fallenBy ((settledC s e) .acks) raised in
+      ap (λ (k : Latches). withLatches k fallen)
+      (sym (latches-from-registers (s .registers) (fallen .registers) ((afterA s e) .status) (raised .status) (fallen .latches)))
