@@ -1,19 +1,25 @@
 -- A, part by part: each finds the image of the state that the part before it left.
-use mathlib.Core.Path.{_≡_, ap, _∙_}
-use mathlib.Core.Bool.{Bool, true}
+use mathlib.Core.Path.{_≡_, ap, sym, subst, _∙_}
+use mathlib.Core.Bool.{Bool, true, _&&_}
 use mathlib.Core.List.{List}
 use Prim.Native.Nat.{ℕ}
 use Rattle.rules.specs.State.{State}
+use Rattle.rules.specs.Seen.{automatic, matched, reqSeen}
 use Rattle.rules.specs.Events.{linesAfter}
 use Rattle.rules.specs.Codes.{accessCode, isDone}
 use Rattle.rules.specs.StepA.{latchAccess, automaticAck, registersA, transferA, statusA, latchesA, stackA, identityA, afterA}
 use Rattle.rules.specs.Ranges.{InRange, InBytes, EventFits}
 use Rattle.rules.specs.declared.codes.Code.the-variants.{Done}
 use Rattle.rules.specs.declared.records.Event.{Event}
-use Rattle.rules.proofs.Ranges.{after-a-fits, bytes-after-a}
-use Rattle.image.specs.Image.{imageOf, stateAt, IsImage, withLines, withRegisters, withTransfer, withStatus, withLatches, withStack, withIdentity}
-use Rattle.turns.proofs.Going.{image-is, onward}
+use Rattle.rules.proofs.Ranges.{after-a-fits, bytes-after-a, port-room}
+use Rattle.ports.specs.Ready.{Room}
+use Rattle.image.specs.Image.{imageOf, stateAt, registersAt, linesAt, IsImage, withLines, withRegisters, withTransfer, withStatus, withLatches, withStack, withIdentity}
+use Rattle.turns.proofs.Going.{image-is, state-is, onward}
 use Rattle.turns.proofs.PartsOfA as parts
+
+pub acked-is : (m : List ℕ) (e : Event) {x y : Bool} → x ≡ latchAccess (stateAt m) e → y ≡ (x && automatic (registersAt m) && matched (registersAt m) (linesAt m) && reqSeen (registersAt m) (linesAt m)) → y ≡ automaticAck (stateAt m) e
+unfolding automaticAck stateAt
+acked-is m e p h = h ∙ ap (λ (x : Bool). x && automatic (registersAt m) && matched (registersAt m) (linesAt m) && reqSeen (registersAt m) (linesAt m)) p
 
 module _ {m : List ℕ} (g : IsImage m) (e : Event) (f : EventFits e) (d : accessCode (stateAt m) e ≡ Done) where
   abbrev s : State
@@ -28,6 +34,12 @@ module _ {m : List ℕ} (g : IsImage m) (e : Event) (f : EventFits e) (d : acces
   module _ {m1 : List ℕ} (e1 : m1 ≡ imageOf (parts.stacked s e)) where
     pub image1 : IsImage m1
     image1 = image-is (parts.stacked s e) e1 (parts.stacked-fits s e (g .range) a-fits) (parts.stacked-bytes s e (g .bytes) a-bytes)
+
+    pub room1 : Room ((stateAt m1) .transfer .host) e
+    room1 =
+        subst (λ (x : State). Room (x .transfer .host) e)
+        (sym (state-is (parts.stacked s e) e1 (parts.stacked-fits s e (g .range) a-fits) (parts.stacked-bytes s e (g .bytes) a-bytes)))
+        (port-room s e (ap isDone d))
 
     module _ {acked : Bool} (q : acked ≡ automaticAck s e) {m2 : List ℕ} (h2 : m2 ≡ imageOf (withTransfer (transferA acked ((stateAt m1) .transfer) e) (stateAt m1))) where
       is2 : m2 ≡ imageOf (parts.carried s e)

@@ -2,8 +2,11 @@
 ghost use mathlib.Core.Path.{_≡_};
 ghost use mathlib.Core.Bool.{_&&_};
 ghost use Rattle.rules.specs.Seen.{automatic, matched, reqSeen};
-ghost use Rattle.rules.specs.StepA.{latchAccess, automaticAck};
-ghost use Rattle.image.specs.Image.{stateAt, registersAt, linesAt};
+ghost use Rattle.rules.specs.Codes.{accessCode};
+ghost use Rattle.rules.specs.Ranges.{EventFits};
+ghost use Rattle.rules.specs.StepA.{latchAccess, automaticAck, afterA};
+ghost use Rattle.rules.specs.declared.codes.Code.the-variants.{Done};
+ghost use Rattle.image.specs.Image.{IsImage, imageOf, stateAt, registersAt, linesAt};
 use effects::events::reads;
 use effects::events::writes;
 use image::bus::automatic;
@@ -31,4 +34,22 @@ pub fn automatic_ack(m: &[u8; 196], accessed: bool) -> bool
     } else {
         false
     }
+}
+
+// The event's own effect.
+pub fn after_a(m: &mut [u8; 196], e: Event)
+    requires { ⌜ IsImage (now m) ⌝ }
+    requires { ⌜ EventFits e ⌝ }
+    requires { ⌜ accessCode (stateAt (now m)) e ≡ Done ⌝ }
+    ensures { λ _. ⌜ now (m .exit) ≡ imageOf (afterA (stateAt (now (m .entry))) e) ⌝ }
+{
+    let accessed = latch_access(m, e);
+    let acked = automatic_ack(m, accessed);
+    stores::stacking::stack_in(m, e);
+    ports::paths::path_in(m, acked, e);
+    stores::storing::registers_in(m, e);
+    flags::status::status_in(m, accessed, acked, e);
+    flags::latches::latches_in(m, e);
+    stores::lines_in(m, e);
+    stores::identity_in(m, e);
 }
