@@ -1,3 +1,4 @@
+pub mod Elements
 pub mod Pasted
 pub mod Stored
 pub mod Window
