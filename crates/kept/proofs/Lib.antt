@@ -3,3 +3,4 @@ pub mod Pasted
 pub mod Stored
 pub mod Window
 pub mod Held
+pub mod Loaded
