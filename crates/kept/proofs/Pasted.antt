@@ -6,6 +6,7 @@ use native.Mathlib.Omega.{arith}
 use native.Mathlib.Numerals.{add-one}
 use lib.ListN.{length, set, getD, length-set}
 use lib.Seq.{paste, paste-zero, paste-suc}
+use Rattle.rules.specs.Ranges.{Bytes}
 use Rattle.kept.specs.Parts.{Placed}
 
 -- i of the n bytes of s stand in m from a place on, the rest is as it was
@@ -13,16 +14,18 @@ pub record Pasted (before : List ℕ) (at : ℕ) (s : List ℕ) (n : ℕ) (m : L
   pub within : i ≤ n
   pub room : at + n ≤ 196
   pub enough : length s ≡ n
+  pub bytes : Bytes s
   pub size-before : length before ≡ 196
   pub size : length m ≡ 196
   pub placed : m ≡ paste before at s i
 
-pub begun : (m : List ℕ) (at : ℕ) (s : List ℕ) (n : ℕ) → length m ≡ 196 → length s ≡ n → at + n ≤ 196 → Pasted m at s n m 0
-begun m at s n e q h =
+pub begun : (m : List ℕ) (at : ℕ) (s : List ℕ) (n : ℕ) → length m ≡ 196 → length s ≡ n → Bytes s → at + n ≤ 196 → Pasted m at s n m 0
+begun m at s n e q b h =
     record {
       within = omega arith;
       room = h;
       enough = q;
+      bytes = b;
       size-before = e;
       size = e;
       placed = paste-zero m at s;
@@ -35,6 +38,7 @@ module _ {before : List ℕ} {at : ℕ} {s : List ℕ} {n : ℕ} {m : List ℕ} 
         within = omega arith;
         room = c .room;
         enough = c .enough;
+        bytes = c .bytes;
         size-before = c .size-before;
         size = simp length-set (c .size);
         placed = rw (c .placed, add-one i) (paste-suc before at s i 0 (omega arith) (omega arith));
@@ -43,4 +47,4 @@ module _ {before : List ℕ} {at : ℕ} {s : List ℕ} {n : ℕ} {m : List ℕ} 
   pub ended : n ≤ i → Placed before at s n m
   ended h =
       let e : i ≡ n = omega arith in
-      record { size = c .size-before; enough = c .enough; placed = rw e at (c .placed) }
+      record { size = c .size-before; enough = c .enough; bytes = c .bytes; placed = rw e at (c .placed) }

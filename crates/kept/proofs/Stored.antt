@@ -5,10 +5,11 @@ use mathlib.Core.List.{List, [], _++_}
 use native.Mathlib.Omega.{arith}
 use lib.ListN.{length, take, drop, length-append}
 use lib.Seq.{sets, length-sets, sets-eq, take-at, take-all, length-take-le, take-paste, length-paste}
-use Rattle.rules.specs.Chips.{view, chipOf, pathOf}
+use Rattle.rules.specs.Chips.{view, chipOf, pathOf, registersView, pathView, stackView}
 use Rattle.rules.specs.State.{State}
-use Rattle.rules.specs.Ranges.{Tidy, RegistersFit}
+use Rattle.rules.specs.Ranges.{Tidy, RegistersFit, RegistersBytes, Bytes, InBytes}
 use Rattle.rules.specs.declared.chip.Chip.{Chip}
+use Rattle.rules.proofs.Ranges.{bytes-take}
 use Rattle.laws.proofs.Chips.{tidy-registers, tidy-host, tidy-scsi}
 use Rattle.image.specs.Image.{imageOf}
 use Rattle.kept.specs.Parts.{registersBytes, flagsBytes, numbersBytes, countsBytes, Placed}
@@ -85,3 +86,14 @@ module _ (c : Chip) (t : Tidy c) where
       let f3 = stored f2 (numbersBytes (c .path .offset) (c .path .ack) (c .path .last) (c .quiet) (c .identity) (c .stack .pointer)) (omega arith) e3 in
       let f4 = stored f3 (countsBytes (c .path .scsi .count) (c .path .host .count) (c .path .counter)) (omega arith) e4 in
       whole (copied (copied (copied f4 (omega arith) p5) (omega arith) p6) (omega arith) p7) ∙ of-chip
+
+  -- every byte that was stored is one
+  pub in-bytes : RegistersBytes (c .registers) → c .lines .byte < 256 → c .path .last < 256 → Bytes (c .path .scsi .bytes) → Bytes (c .stack .bytes) → Bytes (c .path .host .bytes) → InBytes (view c)
+  unfolding view registersView pathView stackView
+  in-bytes r l a scsi stack host =
+      record {
+        lines = l;
+        registers = record { scsidat = r .scsidat; brstcntrl = r .brstcntrl };
+        transfer = record { last = a; host = bytes-take (c .path .host .count) (c .path .host .bytes) host; scsi = bytes-take (c .path .scsi .count) (c .path .scsi .bytes) scsi };
+        stack = stack;
+      }

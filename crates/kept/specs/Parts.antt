@@ -8,12 +8,15 @@ use lib.Seq.{paste}
 use Rattle.rules.specs.Numbers.{one}
 use Rattle.rules.specs.Counter.{counterByte}
 use Rattle.rules.specs.Registers.{scsiseqByte, sxfrctl0Byte, sxfrctl1Byte, simode0Byte, simode1Byte, dmacntrl0Byte, dmacntrl1Byte}
+use Rattle.rules.specs.Chips.{view}
+use Rattle.rules.specs.Ranges.{Bytes}
 use Rattle.rules.specs.declared.registers.Registers.{Registers}
 use Rattle.rules.specs.declared.records.Lines.{Lines}
 use Rattle.rules.specs.declared.chip.Status.{Status}
 use Rattle.rules.specs.declared.chip.Latches.{Latches}
 use Rattle.rules.specs.declared.chip.Stack.{Stack}
-use Rattle.image.specs.Image.{scsisigByte, scsirateByte, scsiidByte, statusByte, latchesByte, upperByte, controlByte}
+use Rattle.rules.specs.declared.chip.Chip.{Chip}
+use Rattle.image.specs.Image.{imageOf, IsImage, scsisigByte, scsirateByte, scsiidByte, statusByte, latchesByte, upperByte, controlByte}
 
 -- from 0 on
 abbrev pub registersBytes : Registers → List ℕ
@@ -50,8 +53,14 @@ countsBytes scsi host counter =
 pub record Placed (before : List ℕ) (at : ℕ) (s : List ℕ) (n : ℕ) (after : List ℕ) : Type 0 where
   pub size : length before ≡ 196
   pub enough : length s ≡ n
+  pub bytes : Bytes s
   pub placed : after ≡ paste before at s n
 
 -- the stack that an image holds
 abbrev pub stackAt : List ℕ → Stack
 stackAt m = record { bytes = take 32 (drop 36 m); pointer = getD m 22 0 }
+
+-- the array after a chip value was stored into it
+pub record Stored (c : Chip) (m : List ℕ) : Type 0 where
+  pub packed : m ≡ imageOf (view c)
+  pub sound : IsImage m

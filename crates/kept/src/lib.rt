@@ -3,9 +3,10 @@ mod put;
 mod taken;
 
 ghost use mathlib.Core.Path.{_≡_};
-ghost use Rattle.rules.specs.Chips.{view, chipOf};
+ghost use Rattle.rules.specs.Chips.{chipOf};
 ghost use Rattle.rules.specs.Ranges.{Tidy};
-ghost use Rattle.image.specs.Image.{imageOf, stateAt, IsImage};
+ghost use Rattle.image.specs.Image.{stateAt, IsImage};
+ghost use Rattle.kept.specs.Parts.{Stored};
 use crate::put::put_counts;
 use crate::put::put_flags;
 use crate::put::put_host;
@@ -24,7 +25,7 @@ use rules::chip::Chip;
 // A chip value into the array, whatever stood there.
 pub fn store(c: Chip, m: &mut [u8; 196])
     requires { ⌜ Tidy c ⌝ }
-    ensures { λ _. ⌜ now (m .exit) ≡ imageOf (view c) ⌝ }
+    ensures { λ _. ⌜ Stored c (now (m .exit)) ⌝ }
 {
     let registers = c.registers;
     let path = c.path;

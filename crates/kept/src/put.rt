@@ -3,7 +3,7 @@ ghost use mathlib.Core.Path.{_≡_};
 ghost use Prim.Native.Nat.{_<_};
 ghost use lib.ListN.{length};
 ghost use lib.Seq.{sets};
-ghost use Rattle.rules.specs.Ranges.{RegistersFit};
+ghost use Rattle.rules.specs.Ranges.{RegistersFit, RegistersBytes};
 ghost use Rattle.kept.specs.Parts.{registersBytes, flagsBytes, numbersBytes, countsBytes, Placed};
 use image::bytes::control_byte;
 use image::bytes::latches_byte;
@@ -25,7 +25,7 @@ use rules::registers::Registers;
 // 340h to 356h as written.
 pub fn put_registers(r: Registers, m: &mut [u8; 196])
     requires { ⌜ RegistersFit r ⌝ }
-    ensures { λ _. ⌜ now (m .exit) ≡ sets (now (m .entry)) 0 (registersBytes r) ⌝ }
+    ensures { λ _. ⌜ (now (m .exit) ≡ sets (now (m .entry)) 0 (registersBytes r)) × RegistersBytes r ⌝ }
 {
     m[0] = scsiseq_byte(r.scsiseq);
     m[1] = sxfrctl0_byte(r.sxfrctl0);
@@ -43,7 +43,7 @@ pub fn put_registers(r: Registers, m: &mut [u8; 196])
 
 // Status, latches and the lines that others drive.
 pub fn put_flags(t: Status, k: Latches, l: Lines, m: &mut [u8; 196])
-    ensures { λ _. ⌜ now (m .exit) ≡ sets (now (m .entry)) 12 (flagsBytes t k l) ⌝ }
+    ensures { λ _. ⌜ (now (m .exit) ≡ sets (now (m .entry)) 12 (flagsBytes t k l)) × (l .byte < 256) ⌝ }
 {
     m[12] = status_byte(t);
     m[13] = latches_byte(k);
@@ -62,7 +62,7 @@ pub fn put_numbers(
     pointer: u8,
     m: &mut [u8; 196],
 )
-    ensures { λ _. ⌜ now (m .exit) ≡ sets (now (m .entry)) 17 (numbersBytes offset ack last quiet identity pointer) ⌝ }
+    ensures { λ _. ⌜ (now (m .exit) ≡ sets (now (m .entry)) 17 (numbersBytes offset ack last quiet identity pointer)) × (last < 256) ⌝ }
 {
     m[17] = offset;
     m[18] = ack as u8;

@@ -1,5 +1,10 @@
+use mathlib.Core.Path.{_≡_, sym, subst}
 use borrow.Author.Needs.{needs}
-use Rattle.kept.proofs.Stored.{all-stored, registers-fit, counts-fit}
+use Rattle.rules.specs.Chips.{view}
+use Rattle.rules.specs.Ranges.{InBytes}
+use Rattle.image.specs.Image.{imageOf, IsImage}
+use Rattle.image.proofs.ReadBack.{is-image}
+use Rattle.kept.proofs.Stored.{all-stored, in-bytes, registers-fit, counts-fit}
 use Rattle.kept.proofs.store.Statement.{statement}
 use Rattle.kept.proofs.store.Tie as tie
 
@@ -20,7 +25,13 @@ returns c =
     let numbers = c .before .before .before .before .before .before .before .before .put-numbers .ensures in
     let flags = c .before .before .before .before .before .before .before .before .before .before .put-flags .ensures in
     let registers = c .before .before .before .before .before .before .before .before .before .before .before .before .put-registers .ensures in
-    all-stored x (s .pre) (s .args .m .now) registers flags numbers counts scsi stack host
+    let image : c .put-host .last .1 .0 ≡ imageOf (view x) =
+    all-stored x (s .pre) (s .args .m .now) (registers .0) (flags .0) (numbers .0) counts scsi stack host
+    in
+    let bytes : InBytes (view x) =
+    in-bytes x (s .pre) (registers .1) (flags .1) (numbers .1) (scsi .bytes) (stack .bytes) (host .bytes)
+    in
+    record { packed = image; sound = subst IsImage (sym image) (is-image (view x) (s .pre .range) bytes) }
 
 pub store-spec : {M : Type 1} → statement M
 store-spec =
