@@ -1,6 +1,6 @@
 -- Each register's byte in its place: the image of the state after a write to that register.
 use Prim.Native.Nat.{ℕ, _+_, _*_, _/_, _%_, _^_}
-use mathlib.Core.Path.{_≡_, refl, ap, sym, _∙_}
+use mathlib.Core.Path.{_≡_, refl, ap, _∙_}
 use mathlib.Core.Bool.{Bool, not, false, _&&_}
 use mathlib.Core.List.{List}
 use native.Mathlib.Omega.{arith}

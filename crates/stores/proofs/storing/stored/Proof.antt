@@ -1,4 +1,4 @@
-use mathlib.Core.Path.{_≡_, ap, _∙_}
+use mathlib.Core.Path.{ap, _∙_}
 use borrow.Author.Needs.{needs}
 use Rattle.rules.specs.Map.{offsetOf}
 use Rattle.rules.specs.Registers.{scsiseqByte, sxfrctl0Byte, sxfrctl1Byte, simode0Byte, simode1Byte, dmacntrl0Byte, dmacntrl1Byte}
