@@ -1,6 +1,6 @@
 -- The edges, as they are found one after the other; `held` is the count of the SCSI FIFO.
 use Prim.Native.Nat.{ℕ, _+_, min}
-use mathlib.Core.Path.{_≡_, refl, ap, _∙_}
+use mathlib.Core.Path.{_≡_, ap, _∙_}
 use mathlib.Core.Bool.{Bool, false, not, _&&_, _||_, cond}
 use mathlib.Core.List.{List}
 use lib.Dec.{eqb, leb, ltb}
@@ -9,10 +9,11 @@ use Rattle.rules.specs.State.{State}
 use Rattle.rules.specs.Seen.{rstSeen, selSeen, bsySeen, connected, matched, path, synchronous, limit}
 use Rattle.rules.specs.StepB.{parityBad, beyondLimit, lateByte, registersB}
 use Rattle.rules.specs.declared.chip.Edges.{Edges}
-use Rattle.image.specs.Image.{imageOf, stateAt, IsImage}
+use Rattle.image.specs.Image.{stateAt, IsImage}
 use Rattle.edged.specs.Inbound.{inboundEven}
 use Rattle.edged.specs.From.{rstRisesFrom, reqRisesFrom, synchronousReqFrom, quietFrom, edgesFrom}
 use Rattle.edged.proofs.Laws.{and-not, inbound-checked}
+use Rattle.edged.proofs.Placed.{held-of}
 
 module _ (s : State) (held : ℕ) (rst req : Bool) (ticks : ℕ) where
   unfoldable pub resetIn : Bool
@@ -73,13 +74,6 @@ edges-of : (s : State) (rst req : Bool) (ticks : ℕ) → edgesIn s (length (s .
 unfolding edgesFrom rstRisesFrom reqRisesFrom synchronousReqFrom quietFrom parityBad beyondLimit lateByte edgesIn resetIn risesIn badIn callIn beyondIn lateIn quietIn
 edges-of s rst req ticks = rw (inbound-checked (s .registers) (s .lines) (s .transfer), and-not)
 
-count-held : (s : State) → getD (imageOf s) 23 0 ≡ length (s .transfer .scsi)
-unfolding imageOf
-count-held s = refl
-
-pub held-in : (m : List ℕ) → IsImage m → getD m 23 0 ≡ length ((stateAt m) .transfer .scsi)
-held-in m i = ap (λ (l : List ℕ). getD l 23 0) (i .packed) ∙ count-held (stateAt m)
-
 pub edges-in : (m : List ℕ) (rst req : Bool) (ticks : ℕ) → IsImage m → edgesIn (stateAt m) (getD m 23 0) rst req ticks ≡ edgesFrom rst req (stateAt m) ticks
 edges-in m rst req ticks i =
-    ap (λ (n : ℕ). edgesIn (stateAt m) n rst req ticks) (held-in m i) ∙ edges-of (stateAt m) rst req ticks
+    ap (λ (n : ℕ). edgesIn (stateAt m) n rst req ticks) (held-of m (stateAt m) (i .packed)) ∙ edges-of (stateAt m) rst req ticks

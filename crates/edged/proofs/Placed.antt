@@ -1,5 +1,5 @@
 -- Stores into the image of a state are the image of another.
-use Prim.Native.Nat.{ℕ, _+_, _<_, _≤_}
+use Prim.Native.Nat.{ℕ, _+_, _<_}
 use mathlib.Core.Path.{_≡_, refl, ap, sym, _∙_}
 use mathlib.Core.Bool.{Bool, true, false, not, _&&_, _||_, cond, or-false}
 use mathlib.Core.List.{List, [], _∷_, _++_, append-assoc}
@@ -8,19 +8,16 @@ use native.Mathlib.Nat.{zero-add, suc-add}
 use lib.Dec.{eqb}
 use lib.ListN.{length, getD, set, length-append}
 use lib.Seq.{set-append-left}
-use Rattle.rules.specs.Numbers.{bit, one, byteOf, padded}
+use Rattle.rules.specs.Numbers.{one, padded}
 use Rattle.rules.specs.Registers.{scsiseqOf, scsiseqByte, sxfrctl0Of, sxfrctl0Byte, scsisigOf}
 use Rattle.rules.specs.State.{State}
-use Rattle.rules.specs.Seen.{rstSeen, selSeen, bsySeen, connected, matched, mismatched}
 use Rattle.rules.specs.StepB.{scsiseqB, sxfrctl0B, scsisigB, registersB, transferB, statusB}
 use Rattle.rules.specs.declared.registers.Scsiseq.{Scsiseq}
 use Rattle.rules.specs.declared.registers.Sxfrctl0.{Sxfrctl0}
 use Rattle.rules.specs.declared.registers.Scsisig.{Scsisig}
-use Rattle.rules.specs.declared.registers.Registers.{Registers}
-use Rattle.rules.specs.declared.records.Lines.{Lines}
 use Rattle.rules.specs.declared.chip.Status.{Status}
 use Rattle.rules.specs.declared.chip.Edges.{Edges}
-use Rattle.image.specs.Image.{imageOf, headOf, linesAt, registersAt, stateAt, scsisigByte, controlByte, upperByte, statusOf, statusByte, withRegisters, withTransfer, withStatus, withQuiet}
+use Rattle.image.specs.Image.{imageOf, headOf, scsisigByte, statusOf, statusByte, withRegisters, withTransfer, withStatus, withQuiet}
 use Rattle.image.proofs.EightBits.{is-one, bit-0, bit-1, bit-2, bit-3, bit-4, bit-5, bit-6, bit-7}
 use Rattle.laws.proofs.Lists.{padded-push, padded-length}
 use Rattle.edged.specs.Parts.{storedB, countedB}

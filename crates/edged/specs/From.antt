@@ -4,7 +4,6 @@ use mathlib.Core.Bool.{Bool, false, not, _&&_, _||_, cond}
 use Rattle.rules.specs.State.{State}
 use Rattle.rules.specs.Seen.{rstSeen, selSeen, bsySeen, ioSeen, reqSeen, matched, mismatched, path, synchronous, dataSeen}
 use Rattle.rules.specs.StepB.{parityBad, beyondLimit, lateByte, registersB, transferB, statusB}
-use Rattle.rules.specs.declared.registers.Registers.{Registers}
 use Rattle.rules.specs.declared.chip.Edges.{Edges}
 use lib.Dec.{leb}
 

@@ -4,13 +4,15 @@ ghost use mathlib.Core.Bool.{true, false, not, _&&_, _||_, cond};
 ghost use Prim.Native.Nat.{_+_, _<_};
 ghost use lib.Dec.{eqb};
 ghost use lib.ListN.{getD, set};
-ghost use Rattle.rules.specs.Numbers.{bit, one};
+ghost use Rattle.rules.specs.Numbers.{one};
 ghost use Rattle.rules.specs.Registers.{scsiseqOf, scsiseqByte, sxfrctl0Of, sxfrctl0Byte, scsisigOf};
+ghost use Rattle.rules.specs.Seen.{dataSeen};
 ghost use Rattle.rules.specs.State.{State};
 ghost use Rattle.rules.specs.StepB.{scsiseqB, sxfrctl0B, scsisigB, registersB, transferB, statusB};
-ghost use Rattle.image.specs.Image.{imageOf, stateAt, IsImage, scsisigByte, statusOf, statusByte, withRegisters, withTransfer, withStatus};
-ghost use Rattle.edged.specs.Parts.{storedB, countedB};
+ghost use Rattle.image.specs.Image.{imageOf, stateAt, registersAt, linesAt, transferAt, IsImage, scsisigByte, statusOf, statusByte, withRegisters, withTransfer, withStatus};
+ghost use Rattle.edged.specs.Parts.{storedB};
 ghost use Rattle.edged.specs.Room.{Room};
+use image::bus::data_seen;
 use image::bytes::scsisig_byte;
 use image::bytes::status_byte;
 use image::bytes::status_of;
@@ -110,6 +112,13 @@ pub fn registers_in(m: &mut [u8; 196], reset: bool, bad: bool, free: bool)
         return;
     }
     registers_stored(m, reset, bad, free);
+}
+
+// The byte that is stored; where none is, what is seen need not be known.
+pub fn byte_seen(m: &[u8; 196], stored: bool) -> u8
+    ensures { λ b. ⌜ b ≡ cond stored (dataSeen (registersAt (now (m .entry))) (linesAt (now (m .entry))) (transferAt (now (m .entry)))) 0 ⌝ }
+{
+    if stored { data_seen(m) } else { 0 }
 }
 
 fn byte_stored(m: &mut [u8; 196], byte: u8)

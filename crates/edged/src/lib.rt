@@ -5,7 +5,6 @@ ghost use Rattle.image.specs.Image.{registersAt, linesAt, imageOf, stateAt, IsI
 ghost use Rattle.edged.specs.From.{edgesFrom, appliedFrom};
 ghost use Rattle.edged.specs.Room.{Room};
 use crate::last::Before;
-use image::bus::data_seen;
 use image::bus::mismatched;
 use image::bus::rst_seen;
 use rules::chip::Edges;
@@ -59,7 +58,7 @@ pub fn applied_in(m: &mut [u8; 196], g: Edges, was: Before)
     requires { ⌜ Room g ((stateAt (now m)) .transfer) ⌝ }
     ensures { λ _. ⌜ now (m .exit) ≡ imageOf (appliedFrom g (was .mismatched) (stateAt (now (m .entry)))) ⌝ }
 {
-    let byte = data_seen(m);
+    let byte = after::byte_seen(m, g.stored);
     after::path_in(m, g, byte);
     after::registers_in(m, g.rstrises, g.paritybad, g.free);
     let seen = mismatched(m);

@@ -11,7 +11,7 @@ returns c =
     let read = moved .before .before in
     let start = read .before .before in
     let a = start .args in
-    applied-in (a .g) (a .was .mismatched) (a .m .now) (read .data-seen .ensures) (moved .path-in .ensures) (kept .registers-in .ensures)
+    applied-in (a .g) (a .was .mismatched) (a .m .now) (read .byte-seen .ensures) (moved .path-in .ensures) (kept .registers-in .ensures)
     (seen .mismatched .ensures) (c .status-in .ensures)
 
 pub applied-in-spec : {M : Type 1} → statement M
