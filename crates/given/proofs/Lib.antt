@@ -1,3 +1,4 @@
+pub mod AnswerParts
 pub mod Gates
 pub mod LatchByte
 pub mod Unread
