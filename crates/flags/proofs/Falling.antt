@@ -1,11 +1,9 @@
 -- REQINIT falls, or the status stays.
 use Prim.Native.Nat.{ℕ}
-use mathlib.Core.Path.{_≡_, refl, ap, sym, _∙_}
+use mathlib.Core.Path.{_≡_, refl}
 use mathlib.Core.Bool.{Bool, true, false, not, _&&_, false≢true}
 use mathlib.Core.List.{List}
 use lib.Dec.{ltb}
-use lib.ListN.{getD}
-use Rattle.rules.specs.Numbers.{bit}
 use Rattle.rules.specs.Seen.{ackSeen}
 use Rattle.rules.specs.StepD.{statusD}
 use Rattle.rules.specs.declared.chip.Status.{Status}

@@ -1,6 +1,6 @@
 -- One of the two bytes stored, or left, in an image.
 use Prim.Native.Nat.{ℕ}
-use mathlib.Core.Path.{_≡_, refl, ap, sym, _∙_}
+use mathlib.Core.Path.{_≡_, refl, ap, _∙_}
 use mathlib.Core.List.{List}
 use lib.ListN.{set, getD}
 use Rattle.rules.specs.Numbers.{bit}
