@@ -1,5 +1,5 @@
 // One event on the chip in the bytes of one array: the checks, then A, B, C and D, each in place.
-mod acting;
-mod closing;
-mod coded;
-mod reset;
+pub mod acting;
+pub mod closing;
+pub mod coded;
+pub mod reset;
