@@ -274,7 +274,7 @@ after-a s e f room i =
       identity = identity-a (s .identity) e (i .identity);
     }
 
-bytes-after-a : (s : State) (e : Event) → EventFits e → InBytes s → InBytes (afterA s e)
+pub bytes-after-a : (s : State) (e : Event) → EventFits e → InBytes s → InBytes (afterA s e)
 unfolding afterA
 bytes-after-a s e f i =
     record {
@@ -374,7 +374,7 @@ after-b : (s : State) (e : Event) → InRange (afterA s e) → InRange (afterB s
 unfolding edgesOf afterB
 after-b s e i = applied-fits s (afterA s e) (ticksOf e) i
 
-bytes-after-b : (s : State) (e : Event) → InBytes (afterA s e) → InBytes (afterB s e)
+pub bytes-after-b : (s : State) (e : Event) → InBytes (afterA s e) → InBytes (afterB s e)
 unfolding afterB applied registersB
 bytes-after-b s e i =
     let a = afterA s e in

@@ -1,0 +1,6 @@
+pub mod From
+pub mod Laws
+pub mod EdgesIn
+pub mod Placed
+pub mod AppliedIn
+pub mod Room

@@ -1,0 +1,8 @@
+use borrow.Author.Needs.{needs}
+use Rattle.rules.specs.StepB.{statusB}
+use Rattle.edged.proofs.after.status_b.Statement.{statement}
+use Rattle.edged.proofs.after.status_b.Tie as tie
+
+pub status-b-spec : {M : Type 1} → statement M
+unfolding statusB
+status-b-spec = tie.close (tie.spec (λ c. search needs))

@@ -1,0 +1,4 @@
+pub mod Room
+pub mod Inbound
+pub mod From
+pub mod Parts

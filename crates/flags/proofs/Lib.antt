@@ -1,0 +1,5 @@
+pub mod Falling
+pub mod Placed
+pub mod Raising
+pub mod Steady
+pub mod Unwritten

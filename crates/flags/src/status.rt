@@ -1,0 +1,148 @@
+// The status byte, place 12.
+ghost use mathlib.Core.Path.{_≡_};
+ghost use Rattle.rules.specs.Seen.{ackSeen};
+ghost use Rattle.rules.specs.StepA.{statusA};
+ghost use Rattle.rules.specs.StepD.{fifoConflict, pioReady, statusRaised, statusD};
+ghost use Rattle.rules.specs.declared.records.Event.the-variants.{Write, WordRead};
+ghost use Rattle.image.specs.Image.{IsImage, imageOf, stateAt, registersAt, linesAt, transferAt, withStatus};
+use image::bus::ack_seen;
+use image::bus::automatic;
+use image::bus::matched;
+use image::bus::normal;
+use image::bus::path;
+use image::bytes::status_byte;
+use image::bytes::status_of;
+use rules::chip::Status;
+use rules::map::Register;
+use rules::records::Event;
+
+fn status_put(m: &mut [u8; 196], t: Status)
+    requires { ⌜ IsImage (now m) ⌝ }
+    ensures { λ _. ⌜ now (m .exit) ≡ imageOf (withStatus t (stateAt (now (m .entry)))) ⌝ }
+{
+    m[12] = status_byte(t);
+}
+
+// "A write to 34Ch clears the named status bits and latches"; "34Fh clears errors."
+fn status_written(
+    accessed: bool,
+    acked: bool,
+    enspchk: bool,
+    t: Status,
+    offset: u8,
+    value: u8,
+) -> Status
+    ensures { λ n. ⌜ n ≡ statusA accessed acked enspchk t (Write offset value) ⌝ }
+{
+    let clears = offset == map::offset_of(Register::CLRSINT1);
+    let errors = offset == map::offset_of(Register::CLRSERR);
+    Status {
+        spiordy: !accessed & t.spiordy,
+        scsirsti: !(clears & ((value >> 5) % 2 == 1)) & t.scsirsti,
+        busfree: !(clears & ((value >> 3) % 2 == 1)) & t.busfree,
+        scsiperr: !(clears & ((value >> 2) % 2 == 1)) & enspchk & t.scsiperr,
+        phasechg: !(clears & ((value >> 1) % 2 == 1)) & t.phasechg,
+        reqinit: !(clears & ((value >> 0) % 2 == 1)) & !acked & t.reqinit,
+        syncerr: !(errors & ((value >> 2) % 2 == 1)) & t.syncerr,
+        fwerr: !(errors & ((value >> 1) % 2 == 1)) & t.fwerr,
+    }
+}
+
+// Where no register is written, as at a word read.
+fn status_kept(accessed: bool, acked: bool, enspchk: bool, t: Status) -> Status
+    ensures { λ n. ⌜ n ≡ statusA accessed acked enspchk t WordRead ⌝ }
+{
+    let mut n = t;
+    n.spiordy = !accessed & t.spiordy;
+    n.scsiperr = enspchk & t.scsiperr;
+    n.reqinit = !acked & t.reqinit;
+    n
+}
+
+// "While ENSPCHK is 0, SCSIPERR is held at 0": at every event. Most change nothing.
+fn status_kept_in(m: &mut [u8; 196], accessed: bool, acked: bool)
+    requires { ⌜ IsImage (now m) ⌝ }
+    ensures { λ _. ⌜ now (m .exit) ≡ imageOf (withStatus (statusA accessed acked ((stateAt (now (m .entry))) .registers .sxfrctl1 .enspchk) ((stateAt (now (m .entry))) .status) WordRead) (stateAt (now (m .entry)))) ⌝ }
+{
+    let enspchk = (m[2] >> 5) % 2 == 1;
+    let scsiperr = (m[12] >> 4) % 2 == 1;
+    if !accessed & !acked & (enspchk | !scsiperr) {
+        return;
+    }
+    let t = status_kept(accessed, acked, enspchk, status_of(m[12]));
+    status_put(m, t);
+}
+
+// Most writes are to other registers.
+fn status_written_in(m: &mut [u8; 196], accessed: bool, acked: bool, offset: u8, value: u8)
+    requires { ⌜ IsImage (now m) ⌝ }
+    ensures { λ _. ⌜ now (m .exit) ≡ imageOf (withStatus (statusA accessed acked ((stateAt (now (m .entry))) .registers .sxfrctl1 .enspchk) ((stateAt (now (m .entry))) .status) (Write offset value)) (stateAt (now (m .entry)))) ⌝ }
+{
+    let clears = offset == map::offset_of(Register::CLRSINT1);
+    let errors = offset == map::offset_of(Register::CLRSERR);
+    if !(clears | errors) {
+        status_kept_in(m, accessed, acked);
+        return;
+    }
+    let enspchk = (m[2] >> 5) % 2 == 1;
+    let t = status_written(accessed, acked, enspchk, status_of(m[12]), offset, value);
+    status_put(m, t);
+}
+
+// Only a write clears by its value.
+pub fn status_in(m: &mut [u8; 196], accessed: bool, acked: bool, e: Event)
+    requires { ⌜ IsImage (now m) ⌝ }
+    ensures { λ _. ⌜ now (m .exit) ≡ imageOf (withStatus (statusA accessed acked ((stateAt (now (m .entry))) .registers .sxfrctl1 .enspchk) ((stateAt (now (m .entry))) .status) e) (stateAt (now (m .entry)))) ⌝ }
+{
+    match e {
+        Event::Write { offset, value } => status_written_in(m, accessed, acked, offset, value),
+        _ => status_kept_in(m, accessed, acked),
+    }
+}
+
+// "Each ACK ... clears REQINIT." "REQINIT also falls when ACK is seen."
+pub fn fallen_in(m: &mut [u8; 196], acks: u8)
+    requires { ⌜ IsImage (now m) ⌝ }
+    ensures { λ _. ⌜ now (m .exit) ≡ imageOf (withStatus (statusD acks (ackSeen ((stateAt (now (m .entry))) .registers) ((stateAt (now (m .entry))) .lines) ((stateAt (now (m .entry))) .transfer)) ((stateAt (now (m .entry))) .status)) (stateAt (now (m .entry)))) ⌝ }
+{
+    if !((m[12] >> 2) % 2 == 1) {
+        return;
+    }
+    let seen = ack_seen(m);
+    if !(0 < acks) & !seen {
+        return;
+    }
+    let mut t = status_of(m[12]);
+    t.reqinit = false;
+    status_put(m, t);
+}
+
+// "Normal mode with DMAEN, SCSIEN and no path sets FWERR."
+fn fifo_conflict(m: &[u8; 196]) -> bool
+    ensures { λ b. ⌜ b ≡ fifoConflict (registersAt (now (m .entry))) ⌝ }
+{
+    normal(m) & ((m[1] >> 7) % 2 == 1) & !path(m)
+}
+
+// "Automatic mode, matched, REQ seen, automatic ACK off sets SPIORDY."
+fn pio_ready(m: &[u8; 196]) -> bool
+    ensures { λ b. ⌜ b ≡ pioReady (registersAt (now (m .entry))) (linesAt (now (m .entry))) (transferAt (now (m .entry))) ⌝ }
+{
+    automatic(m) & matched(m) & ((m[16] >> 1) % 2 == 1) & !(m[18] == 1)
+}
+
+// What each status rose to in the event.
+pub fn raised_in(m: &mut [u8; 196])
+    requires { ⌜ IsImage (now m) ⌝ }
+    ensures { λ _. ⌜ now (m .exit) ≡ imageOf (withStatus (statusRaised ((stateAt (now (m .entry))) .registers) ((stateAt (now (m .entry))) .lines) ((stateAt (now (m .entry))) .transfer) ((stateAt (now (m .entry))) .status)) (stateAt (now (m .entry)))) ⌝ }
+{
+    let ready = pio_ready(m);
+    let conflict = fifo_conflict(m);
+    if !(ready | conflict) {
+        return;
+    }
+    let mut t = status_of(m[12]);
+    t.spiordy = ready | t.spiordy;
+    t.fwerr = conflict | t.fwerr;
+    status_put(m, t);
+}

@@ -1,0 +1,5 @@
+pub mod AnswerParts
+pub mod Gates
+pub mod LatchByte
+pub mod Unread
+pub mod Held

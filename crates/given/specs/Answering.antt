@@ -1,0 +1,29 @@
+-- The fields of an answer, with the eight bytes sent as they stand in it.
+use Prim.Native.Nat.{ℕ}
+use mathlib.Core.List.{List}
+use lib.ListN.{length}
+use Rattle.rules.specs.State.{State}
+use Rattle.rules.specs.Seen.{driving, dataDriven, parityDriven}
+use Rattle.rules.specs.Interrupts.{irq}
+use Rattle.rules.specs.Answers.{controlDriven}
+use Rattle.rules.specs.declared.codes.Code.{Code}
+use Rattle.rules.specs.declared.records.Answer.{Answer}
+
+unfoldable pub answerWith : State → Code → ℕ → ℕ → ℕ → List ℕ → Answer
+answerWith s code value moves acks sent =
+    record {
+      code = code;
+      irq = irq s;
+      acks = acks;
+      moves = moves;
+      driving = driving (s .registers) (s .lines) (s .transfer);
+      rst = s .registers .scsiseq .scsirsto;
+      parity = parityDriven (s .registers) (s .lines) (s .transfer);
+      value = value;
+      control = controlDriven s;
+      driven = dataDriven (s .registers) (s .lines) (s .transfer);
+      offset = s .transfer .offset;
+      scsi = length (s .transfer .scsi);
+      host = length (s .transfer .host);
+      sent = sent;
+    }

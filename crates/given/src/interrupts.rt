@@ -1,0 +1,45 @@
+// PHASEMIS, INSTAT and IRQ, read off an image.
+ghost use mathlib.Core.Path.{_≡_};
+ghost use mathlib.Core.Bool.{_&&_};
+ghost use Rattle.rules.specs.Interrupts.{phasemis, instat, irq, anyLatch};
+ghost use Rattle.image.specs.Image.{stateAt};
+use image::bus::mismatched;
+
+// "PHASEMIS is live: connected, not matched, REQINIT.": the lines are looked at only where REQINIT is set.
+pub fn phasemis(m: &[u8; 196]) -> bool
+    ensures { λ b. ⌜ b ≡ phasemis (stateAt (now (m .entry))) ⌝ }
+{
+    let reqinit = (m[12] >> 2) % 2 == 1;
+    if reqinit { mismatched(m) } else { false }
+}
+
+// PHASEMIS "counts while enabled".
+fn enabled_phasemis(m: &[u8; 196]) -> bool
+    ensures { λ b. ⌜ b ≡ phasemis (stateAt (now (m .entry))) && (stateAt (now (m .entry))) .registers .simode1 .enphasemis ⌝ }
+{
+    let enphasemis = (m[8] >> 4) % 2 == 1;
+    if enphasemis { phasemis(m) } else { false }
+}
+
+// The six latches are the low bits of one byte.
+fn any_latch(m: &[u8; 196]) -> bool
+    ensures { λ b. ⌜ b ≡ anyLatch ((stateAt (now (m .entry))) .latches) ⌝ }
+{
+    !(m[13] % 64 == 0)
+}
+
+// "INSTAT is any latch, enabled PHASEMIS, or SWINT."
+pub fn instat(m: &[u8; 196]) -> bool
+    ensures { λ b. ⌜ b ≡ instat (stateAt (now (m .entry))) ⌝ }
+{
+    let at_once = any_latch(m) | ((m[9] >> 0) % 2 == 1);
+    if at_once { true } else { enabled_phasemis(m) }
+}
+
+// "IRQ is INSTAT and INTEN.": INSTAT is looked at only where INTEN is set.
+pub fn irq(m: &[u8; 196]) -> bool
+    ensures { λ b. ⌜ b ≡ irq (stateAt (now (m .entry))) ⌝ }
+{
+    let inten = (m[9] >> 2) % 2 == 1;
+    if inten { instat(m) } else { false }
+}

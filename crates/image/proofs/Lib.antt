@@ -1,0 +1,2 @@
+pub mod EightBits
+pub mod ReadBack

@@ -1,0 +1,8 @@
+use borrow.Author.Needs.{needs}
+use Rattle.rules.specs.Seen.{selSeen}
+use Rattle.image.proofs.bus.sel_seen.Statement.{statement}
+use Rattle.image.proofs.bus.sel_seen.Tie as tie
+
+pub sel-seen-spec : {M : Type 1} → statement M
+unfolding selSeen
+sel-seen-spec = tie.close (tie.spec (λ c. search needs) (λ c. search needs) (λ c. search needs))

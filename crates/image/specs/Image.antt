@@ -1,0 +1,274 @@
+-- The chip's state as 196 bytes in one array, and read back from them.
+use Prim.Native.Nat.{ℕ, _+_, _*_, _%_}
+use mathlib.Core.Bool.{Bool, false}
+use mathlib.Core.Path.{_≡_}
+use mathlib.Core.List.{List, [], _∷_, _++_}
+use lib.Dec.{eqb}
+use lib.ListN.{length, take, drop, getD}
+use Rattle.rules.specs.Numbers.{bit, field, one, byteOf, padded}
+use Rattle.rules.specs.Counter.{counterByte}
+use Rattle.rules.specs.Registers.{scsiseqOf, scsiseqByte, sxfrctl0Of, sxfrctl0Byte, sxfrctl1Of, sxfrctl1Byte, scsisigOf, scsirateOf, scsiidOf, simode0Of, simode0Byte, simode1Of, simode1Byte, dmacntrl0Of, dmacntrl0Byte, dmacntrl1Of, dmacntrl1Byte}
+use Rattle.rules.specs.State.{State, Transfer}
+use Rattle.rules.specs.Ranges.{InRange, InBytes}
+use Rattle.rules.specs.declared.registers.Scsisig.{Scsisig}
+use Rattle.rules.specs.declared.registers.Scsirate.{Scsirate}
+use Rattle.rules.specs.declared.registers.Scsiid.{Scsiid}
+use Rattle.rules.specs.declared.registers.Registers.{Registers}
+use Rattle.rules.specs.declared.records.Lines.{Lines}
+use Rattle.rules.specs.declared.chip.Status.{Status}
+use Rattle.rules.specs.declared.chip.Latches.{Latches}
+use Rattle.rules.specs.declared.chip.Stack.{Stack}
+
+-- bytes that no register read gives: 343h and 344h, 345h as written
+abbrev pub scsisigByte : Scsisig → ℕ
+scsisigByte g = byteOf (g .cdexp) (g .ioexp) (g .msgexp) (g .atno) (g .selo) (g .bsyo) (g .reqo) (g .acko)
+
+abbrev pub scsirateByte : Scsirate → ℕ
+scsirateByte r = r .sxfr * 16 + r .sofs
+
+abbrev pub scsiidByte : Scsiid → ℕ
+scsiidByte r = r .oid * 16 + r .tid
+
+abbrev pub statusByte : Status → ℕ
+statusByte t =
+    byteOf (t .spiordy) (t .scsirsti) (t .busfree) (t .scsiperr) (t .phasechg) (t .reqinit) (t .syncerr) (t .fwerr)
+
+abbrev pub statusOf : ℕ → Status
+statusOf v =
+    record {
+      spiordy = bit v 7;
+      scsirsti = bit v 6;
+      busfree = bit v 5;
+      scsiperr = bit v 4;
+      phasechg = bit v 3;
+      reqinit = bit v 2;
+      syncerr = bit v 1;
+      fwerr = bit v 0;
+    }
+
+abbrev pub latchesByte : Latches → ℕ
+latchesByte k = byteOf false false (k .spiordy) (k .scsirsti) (k .busfree) (k .scsiperr) (k .phasechg) (k .reqinit)
+
+abbrev pub latchesOf : ℕ → Latches
+latchesOf v =
+    record {
+      spiordy = bit v 5;
+      scsirsti = bit v 4;
+      busfree = bit v 3;
+      scsiperr = bit v 2;
+      phasechg = bit v 1;
+      reqinit = bit v 0;
+    }
+
+-- parity and RST, then the lines in the order of 343h
+abbrev pub upperByte : Lines → ℕ
+upperByte l = byteOf false false false false false false (l .parity) (l .rst)
+
+abbrev pub controlByte : Lines → ℕ
+controlByte l = byteOf (l .cd) (l .io) (l .msg) (l .atn) (l .sel) (l .bsy) (l .req) (l .ack)
+
+-- the 28 bytes before the FIFOs and the stack
+abbrev pub headOf : State → List ℕ
+headOf s =
+    scsiseqByte (s .registers .scsiseq)
+    ∷ sxfrctl0Byte (s .registers .sxfrctl0)
+    ∷ sxfrctl1Byte (s .registers .sxfrctl1)
+    ∷ scsisigByte (s .registers .scsisig)
+    ∷ scsirateByte (s .registers .scsirate)
+    ∷ scsiidByte (s .registers .scsiid)
+    ∷ s .registers .scsidat
+    ∷ simode0Byte (s .registers .simode0)
+    ∷ simode1Byte (s .registers .simode1)
+    ∷ dmacntrl0Byte (s .registers .dmacntrl0)
+    ∷ dmacntrl1Byte (s .registers .dmacntrl1) 0
+    ∷ s .registers .brstcntrl
+    ∷ statusByte (s .status)
+    ∷ latchesByte (s .latches)
+    ∷ s .lines .byte
+    ∷ upperByte (s .lines)
+    ∷ controlByte (s .lines)
+    ∷ s .transfer .offset
+    ∷ one (s .transfer .ack)
+    ∷ s .transfer .last
+    ∷ s .quiet
+    ∷ s .identity
+    ∷ s .stack .pointer
+    ∷ length (s .transfer .scsi)
+    ∷ length (s .transfer .host)
+    ∷ counterByte 0 (s .transfer .counter)
+    ∷ counterByte 1 (s .transfer .counter)
+    ∷ counterByte 2 (s .transfer .counter)
+    ∷ []
+
+-- one state has one image: FIFO bytes oldest first, 0 past the count
+unfoldable pub imageOf : State → List ℕ
+imageOf s = headOf s ++ padded 8 (s .transfer .scsi) ++ s .stack .bytes ++ padded 128 (s .transfer .host)
+
+abbrev pub registersAt : List ℕ → Registers
+registersAt m =
+    record {
+      scsiseq = scsiseqOf (getD m 0 0);
+      sxfrctl0 = sxfrctl0Of (getD m 1 0);
+      sxfrctl1 = sxfrctl1Of (getD m 2 0);
+      scsisig = scsisigOf false (getD m 3 0);
+      scsirate = scsirateOf (getD m 4 0);
+      scsiid = scsiidOf (getD m 5 0);
+      scsidat = getD m 6 0;
+      simode0 = simode0Of (getD m 7 0);
+      simode1 = simode1Of (getD m 8 0);
+      dmacntrl0 = dmacntrl0Of (getD m 9 0);
+      dmacntrl1 = dmacntrl1Of (getD m 10 0);
+      brstcntrl = getD m 11 0;
+    }
+
+abbrev pub linesAt : List ℕ → Lines
+linesAt m =
+    record {
+      byte = getD m 14 0;
+      parity = bit (getD m 15 0) 1;
+      rst = bit (getD m 15 0) 0;
+      cd = bit (getD m 16 0) 7;
+      io = bit (getD m 16 0) 6;
+      msg = bit (getD m 16 0) 5;
+      atn = bit (getD m 16 0) 4;
+      sel = bit (getD m 16 0) 3;
+      bsy = bit (getD m 16 0) 2;
+      req = bit (getD m 16 0) 1;
+      ack = bit (getD m 16 0) 0;
+    }
+
+abbrev pub transferAt : List ℕ → Transfer
+transferAt m =
+    record {
+      host = take (getD m 24 0) (drop 68 m);
+      scsi = take (getD m 23 0) (drop 28 m);
+      counter = getD m 25 0 + 256 * getD m 26 0 + 65536 * getD m 27 0;
+      offset = getD m 17 0;
+      ack = eqb (getD m 18 0) 1;
+      last = getD m 19 0;
+    }
+
+-- the state that an image stands for
+unfoldable pub stateAt : List ℕ → State
+stateAt m =
+    record {
+      lines = linesAt m;
+      registers = registersAt m;
+      transfer = transferAt m;
+      status = statusOf (getD m 12 0);
+      latches = latchesOf (getD m 13 0);
+      stack = record { bytes = take 32 (drop 36 m); pointer = getD m 22 0 };
+      quiet = getD m 20 0;
+      identity = getD m 21 0;
+    }
+
+-- an array that is the image of a state in range
+pub record IsImage (m : List ℕ) : Type 0 where
+  pub packed : m ≡ imageOf (stateAt m)
+  pub range : InRange (stateAt m)
+  pub bytes : InBytes (stateAt m)
+
+-- the state with one component another
+abbrev pub withLines : Lines → State → State
+withLines x s =
+    record {
+      lines = x;
+      registers = s .registers;
+      transfer = s .transfer;
+      status = s .status;
+      latches = s .latches;
+      stack = s .stack;
+      quiet = s .quiet;
+      identity = s .identity;
+    }
+
+abbrev pub withRegisters : Registers → State → State
+withRegisters x s =
+    record {
+      lines = s .lines;
+      registers = x;
+      transfer = s .transfer;
+      status = s .status;
+      latches = s .latches;
+      stack = s .stack;
+      quiet = s .quiet;
+      identity = s .identity;
+    }
+
+abbrev pub withTransfer : Transfer → State → State
+withTransfer x s =
+    record {
+      lines = s .lines;
+      registers = s .registers;
+      transfer = x;
+      status = s .status;
+      latches = s .latches;
+      stack = s .stack;
+      quiet = s .quiet;
+      identity = s .identity;
+    }
+
+abbrev pub withStatus : Status → State → State
+withStatus x s =
+    record {
+      lines = s .lines;
+      registers = s .registers;
+      transfer = s .transfer;
+      status = x;
+      latches = s .latches;
+      stack = s .stack;
+      quiet = s .quiet;
+      identity = s .identity;
+    }
+
+abbrev pub withLatches : Latches → State → State
+withLatches x s =
+    record {
+      lines = s .lines;
+      registers = s .registers;
+      transfer = s .transfer;
+      status = s .status;
+      latches = x;
+      stack = s .stack;
+      quiet = s .quiet;
+      identity = s .identity;
+    }
+
+abbrev pub withStack : Stack → State → State
+withStack x s =
+    record {
+      lines = s .lines;
+      registers = s .registers;
+      transfer = s .transfer;
+      status = s .status;
+      latches = s .latches;
+      stack = x;
+      quiet = s .quiet;
+      identity = s .identity;
+    }
+
+abbrev pub withQuiet : ℕ → State → State
+withQuiet x s =
+    record {
+      lines = s .lines;
+      registers = s .registers;
+      transfer = s .transfer;
+      status = s .status;
+      latches = s .latches;
+      stack = s .stack;
+      quiet = x;
+      identity = s .identity;
+    }
+
+abbrev pub withIdentity : ℕ → State → State
+withIdentity x s =
+    record {
+      lines = s .lines;
+      registers = s .registers;
+      transfer = s .transfer;
+      status = s .status;
+      latches = s .latches;
+      stack = s .stack;
+      quiet = s .quiet;
+      identity = x;
+    }

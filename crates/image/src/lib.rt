@@ -1,0 +1,3 @@
+// The chip in the bytes of one array, changed in place.
+pub mod bus;
+pub mod bytes;

@@ -1,0 +1,6 @@
+pub mod Elements
+pub mod Pasted
+pub mod Stored
+pub mod Window
+pub mod Held
+pub mod Loaded

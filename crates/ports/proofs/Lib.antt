@@ -1,0 +1,4 @@
+pub mod Pasted
+pub mod Fronts
+pub mod Heads
+pub mod Accesses

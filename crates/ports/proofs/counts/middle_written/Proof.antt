@@ -1,0 +1,7 @@
+use borrow.Author.Needs.{needs}
+use Rattle.ports.proofs.Heads.{middle}
+use Rattle.ports.proofs.counts.middle_written.Statement.{statement}
+use Rattle.ports.proofs.counts.middle_written.Tie as tie
+
+pub middle-written-spec : {M : Type 1} → statement M
+middle-written-spec = tie.close (tie.spec (λ c. search needs) (λ c s e. middle s e (c .args .value) (c .fits .value .fits)))

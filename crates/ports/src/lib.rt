@@ -1,0 +1,6 @@
+// Step A's effect on the data path, in place: the two FIFOs, the counter, the offset and the automatic ACK.
+pub mod counts;
+pub mod host;
+pub mod paths;
+pub mod places;
+pub mod scsi;

@@ -1,0 +1,5 @@
+pub mod Arms
+pub mod Kept
+pub mod Names
+pub mod Places
+pub mod Stacked

@@ -1,0 +1,140 @@
+-- The stack in an image: a byte at its place, the pointer in its own.
+use Prim.Native.Nat.{ℕ, _+_, _%_, _<_}
+use mathlib.Core.Path.{_≡_, refl, ap, _∙_}
+use mathlib.Core.Bool.{Bool, true, false}
+use mathlib.Core.List.{List, [], _∷_, _++_}
+use native.Mathlib.Omega.{arith}
+use native.Mathlib.Nat.{zero-add, suc-add}
+use borrow.Author.Tests.{ne-eqb}
+use lib.ListN.{length, set, getD, length-append}
+use lib.Seq.{set-append-left}
+use Rattle.rules.specs.Numbers.{bit, padded}
+use Rattle.rules.specs.Stack.{stackSize, stackPlace, pointerAfter, stackRead, stackWritten, pointed}
+use Rattle.rules.specs.State.{State}
+use Rattle.rules.specs.Ranges.{InRange}
+use Rattle.rules.specs.Events.{writes, reads, valueOf}
+use Rattle.rules.specs.StepA.{stackA}
+use Rattle.rules.specs.declared.chip.Stack.{Stack}
+use Rattle.rules.specs.declared.records.Event.{Event}
+use Rattle.rules.specs.declared.records.Event.the-variants.{Write, Read}
+use Rattle.laws.proofs.Lists.{padded-length}
+use Rattle.stack.proofs.Places.{place-lt}
+use Rattle.image.specs.Image.{IsImage, imageOf, headOf, stateAt, withStack}
+
+-- a store past the first part
+set-append-add : (xs ys : List ℕ) (n a : ℕ) → set (xs ++ ys) (length xs + n) a ≡ xs ++ set ys n a
+set-append-add [] ys n a = ap (λ (k : ℕ). set ys k a) (zero-add n)
+set-append-add (x ∷ xs) ys n a = ap (λ (k : ℕ). set (x ∷ (xs ++ ys)) k a) (suc-add (length xs) n) ∙ ap (λ (r : List ℕ). x ∷ r) (set-append-add xs ys n a)
+
+-- a store in the middle part of three
+set-middle : (p b t : List ℕ) (k i a : ℕ) → k ≡ length p + i → i < length b → set ((p ++ b) ++ t) k a ≡ (p ++ set b i a) ++ t
+set-middle p b t k i a e lt =
+    let l : length (p ++ b) ≡ length p + length b = length-append p b in
+    let below : k < length (p ++ b) = omega (arith, l, e, lt) in
+    set-append-left (p ++ b) t k a below
+    ∙ ap (λ (r : List ℕ). r ++ t) (ap (λ (x : ℕ). set (p ++ b) x a) e ∙ set-append-add p b i a)
+
+-- the stack comes after the 28 bytes and the SCSI FIFO
+before-stack : (h q : List ℕ) → length h ≡ 28 → length q ≡ 8 → (i : ℕ) → 36 + i ≡ length (h ++ q) + i
+before-stack h q e f i = omega (arith, length-append h q, e, f)
+
+abbrev pub stackOf : List ℕ → ℕ → Stack
+stackOf b p = record { bytes = b; pointer = p }
+
+byte-image : (s : State) → InRange s → (i a : ℕ) → i < 32 → set (imageOf s) (36 + i) a ≡ imageOf (withStack (stackOf (set (s .stack .bytes) i a) (s .stack .pointer)) s)
+unfolding imageOf
+byte-image s r i a lt =
+    let q = padded 8 (s .transfer .scsi) in
+    let n : length q ≡ 8 = padded-length 8 (s .transfer .scsi) (r .transfer .scsi) in
+    let z : length (s .stack .bytes) ≡ 32 = r .stack .size in
+    let f : i < length (s .stack .bytes) = omega (arith, z, lt) in
+    set-middle (headOf s ++ q) (s .stack .bytes) (padded 128 (s .transfer .host)) (36 + i) i a (before-stack (headOf s) q refl n i) f
+
+pointer-image : (p : ℕ) (s : State) → set (imageOf s) 22 p ≡ imageOf (withStack (stackOf (s .stack .bytes) p) s)
+unfolding imageOf
+pointer-image p s = refl
+
+both-image : (s : State) → InRange s → (i a p : ℕ) → i < 32 → set (set (imageOf s) (36 + i) a) 22 p ≡ imageOf (withStack (stackOf (set (s .stack .bytes) i a) p) s)
+both-image s r i a p lt =
+    ap (λ (m : List ℕ). set m 22 p) (byte-image s r i a lt)
+    ∙ pointer-image p (withStack (stackOf (set (s .stack .bytes) i a) (s .stack .pointer)) s)
+
+-- ENSTK32 and the pointer as an image has them
+abbrev pub wideAt : List ℕ → Bool
+wideAt m = bit (getD m 10 0) 6
+
+abbrev pub pointerAt : List ℕ → ℕ
+pointerAt m = getD m 22 0
+
+abbrev pub placeOf : Bool → ℕ → ℕ
+placeOf w p = p % stackSize w
+
+abbrev pub nextOf : Bool → ℕ → ℕ
+nextOf w p = (p % stackSize w + 1) % stackSize w
+
+abbrev enstk32At : List ℕ → Bool
+enstk32At m = (stateAt m) .registers .dmacntrl1 .enstk32
+
+pub place-below : (w : Bool) (p : ℕ) → placeOf w p < 32
+place-below true p = omega arith
+place-below false p = omega arith
+
+place-at : (m : List ℕ) → placeOf (wideAt m) (pointerAt m) ≡ stackPlace (enstk32At m) ((stateAt m) .stack)
+unfolding stateAt stackPlace
+place-at m = refl
+
+next-at : (m : List ℕ) → nextOf (wideAt m) (pointerAt m) ≡ pointerAfter (enstk32At m) ((stateAt m) .stack)
+unfolding stateAt stackPlace pointerAfter
+next-at m = refl
+
+-- the array after a write and a read of 35Dh, and after a write of 353h
+pub pushed-image : (v : ℕ) (m : List ℕ) → IsImage m → set (set m (36 + placeOf (wideAt m) (pointerAt m)) v) 22 (nextOf (wideAt m) (pointerAt m)) ≡ imageOf (withStack (stackWritten (enstk32At m) v ((stateAt m) .stack)) (stateAt m))
+unfolding stackWritten
+pushed-image v m i =
+    let w = enstk32At m in
+    let k = (stateAt m) .stack in
+    ap (λ (x : ℕ). set (set m (36 + x) v) 22 (nextOf (wideAt m) (pointerAt m))) (place-at m)
+    ∙ ap (λ (x : ℕ). set (set m (36 + stackPlace w k) v) 22 x) (next-at m)
+    ∙ ap (λ (x : List ℕ). set (set x (36 + stackPlace w k) v) 22 (pointerAfter w k)) (i .packed)
+    ∙ both-image (stateAt m) (i .range) (stackPlace w k) v (pointerAfter w k) (place-lt w k)
+
+pub popped-image : (m : List ℕ) → IsImage m → set m 22 (nextOf (wideAt m) (pointerAt m)) ≡ imageOf (withStack (stackRead (enstk32At m) ((stateAt m) .stack)) (stateAt m))
+unfolding stackRead
+popped-image m i =
+    let p = pointerAfter (enstk32At m) ((stateAt m) .stack) in
+    ap (λ (x : ℕ). set m 22 x) (next-at m)
+    ∙ ap (λ (x : List ℕ). set x 22 p) (i .packed)
+    ∙ pointer-image p (stateAt m)
+
+pub pointed-image : (v : ℕ) (m : List ℕ) → IsImage m → set m 22 (v % 32) ≡ imageOf (withStack (pointed v ((stateAt m) .stack)) (stateAt m))
+unfolding pointed
+pointed-image v m i = ap (λ (x : List ℕ). set x 22 (v % 32)) (i .packed) ∙ pointer-image (v % 32) (stateAt m)
+
+-- which of them an event asks for
+module _ (w : Bool) (k : Stack) (o : ℕ) where
+  pub wrote-stack : (v : ℕ) → o ≡ 29 → stackWritten w v k ≡ stackA w k (Write o v)
+  unfolding stackA writes reads valueOf
+  wrote-stack v e = rw e
+
+  pub wrote-pointer : (v : ℕ) → o ≡ 19 → pointed v k ≡ stackA w k (Write o v)
+  unfolding stackA writes reads valueOf
+  wrote-pointer v e = rw e
+
+  pub wrote-neither : (v : ℕ) → (o ≡ 29 → ⊥) → (o ≡ 19 → ⊥) → k ≡ stackA w k (Write o v)
+  unfolding stackA writes reads valueOf
+  wrote-neither v a b = rw (ne-eqb o 29 a, ne-eqb o 19 b)
+
+  pub read-stack : o ≡ 29 → stackRead w k ≡ stackA w k (Read o)
+  unfolding stackA writes reads valueOf
+  read-stack e = rw e
+
+  pub read-other : (o ≡ 29 → ⊥) → k ≡ stackA w k (Read o)
+  unfolding stackA writes reads valueOf
+  read-other a = rw (ne-eqb o 29 a)
+
+-- a stack that is equal gives the same image
+pub stack-image : (m : List ℕ) {k n : Stack} → k ≡ n → imageOf (withStack k (stateAt m)) ≡ imageOf (withStack n (stateAt m))
+stack-image m e = ap (λ (k : Stack). imageOf (withStack k (stateAt m))) e
+
+pub stack-kept : (e : Event) (m : List ℕ) → IsImage m → (stateAt m) .stack ≡ stackA (enstk32At m) ((stateAt m) .stack) e → m ≡ imageOf (withStack (stackA (enstk32At m) ((stateAt m) .stack) e) (stateAt m))
+stack-kept e m i h = i .packed ∙ stack-image m h

@@ -1,0 +1,7 @@
+pub mod Coding
+pub mod Going
+pub mod PartsOfA
+pub mod PartsOfD
+pub mod ThroughA
+pub mod ThroughB
+pub mod ThroughD

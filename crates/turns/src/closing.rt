@@ -1,0 +1,19 @@
+// D, what follows settling, and the latches.
+ghost use mathlib.Core.Path.{_≡_};
+ghost use Rattle.rules.specs.Registers.{simode0Of, simode1Of};
+ghost use Rattle.image.specs.Image.{IsImage, imageOf, stateAt, statusOf};
+ghost use Rattle.turns.specs.Closing.{closedBy};
+use flags::latches::latched_in;
+use flags::status::fallen_in;
+use flags::status::raised_in;
+
+// before0 and before1 are 350h and 351h before the event, status the status byte after A.
+pub fn closed_in(m: &mut [u8; 196], before0: u8, before1: u8, status: u8, acks: u8)
+    requires { ⌜ IsImage (now m) ⌝ }
+    ensures { λ _. ⌜ now (m .exit) ≡ imageOf (closedBy (simode0Of before0) (simode1Of before1) (statusOf status) acks (stateAt (now (m .entry)))) ⌝ }
+{
+    raised_in(m);
+    let raised = m[12];
+    fallen_in(m, acks);
+    latched_in(m, before0, before1, status, raised);
+}
