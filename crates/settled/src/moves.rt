@@ -6,7 +6,6 @@ ghost use lib.ListN.{length};
 ghost use Rattle.image.specs.Image.{IsImage, imageOf, stateAt, withTransfer};
 ghost use Rattle.settling.specs.Settled.{movable, carried};
 ghost use Rattle.settled.specs.Steps.{Moves};
-
 use rules::chip::Conditions;
 
 // k bytes from the host FIFO behind those of the SCSI FIFO.

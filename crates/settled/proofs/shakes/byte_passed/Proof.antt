@@ -27,10 +27,10 @@ returns c =
     let t = (stateAt (now (a .args .m))) .transfer in
     let v = sentView (a .args .sent) in (
       c .one-more .ensures ∙ ap (λ (b : ℕ). sentOf (v ++ (b ∷ []))) (c .before .byte-sent .ensures .0)
-      ∙ ap (λ (l : List ℕ). sentOf (v ++ l)) (sym (take-one (t .scsi) (handshake-outbound (a .args .c) t o (a .pre .1 .0))))
-      ∙ ap (λ (y : Bool). sentOf (cond y (v ++ take 1 (t .scsi)) v)) (sym o),
+          ∙ ap (λ (l : List ℕ). sentOf (v ++ l)) (sym (take-one (t .scsi) (handshake-outbound (a .args .c) t o (a .pre .1 .0))))
+          ∙ ap (λ (y : Bool). sentOf (cond y (v ++ take 1 (t .scsi)) v)) (sym o),
       c .before .byte-sent .ensures .1
-      ∙ ap (λ (x : Transfer). imageOf (withTransfer x (stateAt (now (a .args .m))))) (sym (pass-sent (a .args .c .outbound) (storedBy (a .args .c)) t o)),
+          ∙ ap (λ (x : Transfer). imageOf (withTransfer x (stateAt (now (a .args .m))))) (sym (pass-sent (a .args .c .outbound) (storedBy (a .args .c)) t o)),
     )
 
 returns-2 : tie.Need-returns-2
@@ -40,7 +40,7 @@ returns-2 c =
     let v = sentView (a .args .sent) in (
       a .pre .1 .1 .0 ∙ ap (λ (y : Bool). sentOf (cond y (v ++ take 1 (t .scsi)) v)) (sym (c .before .if1 .left)),
       a .pre .0 .packed
-      ∙ ap (λ (x : Transfer). imageOf (withTransfer x (stateAt (now (a .args .m))))) (sym (pass-none (a .args .c .outbound) (a .args .c .synchronous) (a .args .c .byte) t (c .before .if1 .left) (c .if2 .taken))),
+          ∙ ap (λ (x : Transfer). imageOf (withTransfer x (stateAt (now (a .args .m))))) (sym (pass-none (a .args .c .outbound) (a .args .c .synchronous) (a .args .c .byte) t (c .before .if1 .left) (c .if2 .taken))),
     )
 
 byte-stored-requires : tie.Need-byte-stored-requires
@@ -56,7 +56,7 @@ returns-3 c =
     let v = sentView (a .args .sent) in (
       a .pre .1 .1 .0 ∙ ap (λ (y : Bool). sentOf (cond y (v ++ take 1 (t .scsi)) v)) (sym o),
       c .byte-stored .ensures
-      ∙ ap (λ (x : Transfer). imageOf (withTransfer x (stateAt (now (a .args .m))))) (sym (pass-stored (a .args .c .outbound) (a .args .c .synchronous) (a .args .c .byte) t o (c .before .before .if2 .left))),
+          ∙ ap (λ (x : Transfer). imageOf (withTransfer x (stateAt (now (a .args .m))))) (sym (pass-stored (a .args .c .outbound) (a .args .c .synchronous) (a .args .c .byte) t o (c .before .before .if2 .left))),
     )
 
 pub byte-passed-spec : {M : Type 1} → statement M
