@@ -33,12 +33,6 @@ counted-out s q h m₂ a b e f g =
     ∙ counts-set s q h
 
 module _ (s : State) (m m₁ m₂ : List ℕ) (k a b : ℕ) (p : m ≡ imageOf s) (r : InRange s) (u : a ≡ length (s .transfer .scsi)) (v : b ≡ length (s .transfer .host)) where
-  q : List ℕ
-  q = s .transfer .scsi
-
-  h : List ℕ
-  h = s .transfer .host
-
   z : Sized (headOf s) (s .transfer .scsi) (s .stack .bytes) (s .transfer .host)
   z = sized s (r .transfer) (r .stack)
 

@@ -164,3 +164,9 @@ kept m m′ t i f b e =
 -- the length of an image
 pub long : (m : List ℕ) → IsImage m → length m ≡ 196
 long m i = ap length (i .packed) ∙ image-long (stateAt m) (i .range .transfer) (i .range .stack)
+
+pub offset-held : (m : List ℕ) → IsImage m → getD m 17 0 ≡ (stateAt m) .transfer .offset
+offset-held m i = ap (λ (l : List ℕ). getD l 17 0) (i .packed) ∙ offset-at (stateAt m)
+
+pub ack-held : (m : List ℕ) → IsImage m → eqb (getD m 18 0) 1 ≡ (stateAt m) .transfer .ack
+ack-held m i = ap (λ (l : List ℕ). eqb (getD l 18 0) 1) (i .packed) ∙ ap (λ (n : ℕ). eqb n 1) (ack-at (stateAt m)) ∙ is-one ((stateAt m) .transfer .ack)

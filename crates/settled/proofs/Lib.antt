@@ -1,4 +1,6 @@
 pub mod Carries
+pub mod Going
+pub mod Handshakes
 pub mod Kept
 pub mod Parts
 pub mod Pastes

@@ -39,10 +39,13 @@ module _ {m₀ : List ℕ} {at : ℕ} {s : List ℕ} {n : ℕ} {m : List ℕ} {i
     where
       p : List ℕ
       p = take at m₀ ++ take i s
+
       q : length p ≡ at + i
       q = length-paste-head m₀ at s i (omega (arith, c .room)) (omega (arith, c .enough))
+
       t : length (take at m₀) ≡ at
       t = length-take-le at m₀ (omega (arith, c .room))
+
       go : Dec (at ≤ from) → getD (paste m₀ at s i) (from + i) 0 ≡ getD m₀ (from + i) 0
       go (yes y) =
           let e : from + i ≡ length p + (from - at) = omega (arith, q) in

@@ -12,7 +12,7 @@ use Rattle.image.specs.Image.{headOf, imageOf, withTransfer}
 use Rattle.settled.specs.Laid.{laid, lowered}
 use Rattle.settled.proofs.Parts.{join-at, lower-at}
 
-flat : (a b c d : List ℕ) → a ++ b ++ c ++ d ≡ a ++ (b ++ (c ++ (d ++ [])))
+pub flat : (a b c d : List ℕ) → a ++ b ++ c ++ d ≡ a ++ (b ++ (c ++ (d ++ [])))
 flat a b c d = simp (append-assoc, append-nil)
 
 pub image-laid : (s : State) → imageOf s ≡ laid (headOf s) (s .transfer .scsi) (s .stack .bytes) (s .transfer .host)

@@ -5,7 +5,7 @@ ghost use Prim.Native.Nat.{_+_, _≤_, min};
 ghost use lib.ListN.{length};
 ghost use Rattle.image.specs.Image.{IsImage, imageOf, stateAt, withTransfer};
 ghost use Rattle.settling.specs.Settled.{movable, carried};
-
+ghost use Rattle.settled.specs.Steps.{Moves};
 use rules::chip::Conditions;
 
 // k bytes from the host FIFO behind those of the SCSI FIFO.
@@ -60,4 +60,30 @@ pub fn run_length(m: &[u8; 196], c: Conditions) -> usize
     } else {
         0
     }
+}
+
+// A run of k moves.
+fn carried_run(m: &mut [u8; 196], c: Conditions, k: usize)
+    requires { ⌜ IsImage (now m) ⌝ }
+    requires { ⌜ k ≤ movable c ((stateAt (now m)) .transfer) ⌝ }
+    ensures { λ _. ⌜ now (m .exit) ≡ imageOf (withTransfer (carried (c .outbound) k ((stateAt (now (m .entry))) .transfer)) (stateAt (now (m .entry)))) ⌝ }
+{
+    if c.outbound {
+        carried_out(m, k);
+    } else {
+        carried_in(m, k);
+    }
+}
+
+// The longest run of moves, and how many they are.
+pub fn moved(m: &mut [u8; 196], c: Conditions) -> u8
+    requires { ⌜ IsImage (now m) ⌝ }
+    ensures { λ r. ⌜ Moves (now (m .entry)) c (now (m .exit)) r ⌝ }
+{
+    let k = run_length(m, c);
+    if k == 0 {
+        return 0;
+    }
+    carried_run(m, c, k);
+    k as u8
 }
