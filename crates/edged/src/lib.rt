@@ -14,7 +14,7 @@ mod found;
 pub mod last;
 
 // What step B of the next event asks of this one.
-pub fn before(m: &[u8; 196]) -> Before
+pub fn last_seen(m: &[u8; 196]) -> Before
     ensures { λ b. ⌜ b .rst ≡ rstSeen (registersAt (now (m .entry))) (linesAt (now (m .entry))) ⌝ }
     ensures { λ b. ⌜ b .req ≡ reqSeen (registersAt (now (m .entry))) (linesAt (now (m .entry))) ⌝ }
     ensures { λ b. ⌜ b .mismatched ≡ mismatched (registersAt (now (m .entry))) (linesAt (now (m .entry))) ⌝ }

@@ -5,3 +5,4 @@ pub mod PartsOfD
 pub mod ThroughA
 pub mod ThroughB
 pub mod ThroughD
+pub mod ThroughAll

@@ -2,4 +2,5 @@
 pub mod acting;
 pub mod closing;
 pub mod coded;
+pub mod event;
 pub mod reset;

@@ -1,0 +1,75 @@
+-- C, D and the answer, on the image that B left.
+use mathlib.Core.Path.{_≡_, ap, sym, _∙_}
+use mathlib.Core.Bool.{cond}
+use mathlib.Core.List.{List}
+use Prim.Native.Nat.{ℕ}
+use Rattle.rules.specs.Numbers.{padded}
+use Rattle.rules.specs.State.{State}
+use Rattle.rules.specs.Registers.{simode0Of, simode1Of}
+use Rattle.rules.specs.Answers.{answerOf, answerBytes}
+use Rattle.rules.specs.Reads.{valueRead}
+use Rattle.rules.specs.StepA.{afterA}
+use Rattle.rules.specs.StepB.{edges, edgesOf, afterB}
+use Rattle.rules.specs.StepC.{Settling, conditions, settle, turns, started, settledC}
+use Rattle.rules.specs.StepD.{afterD}
+use Rattle.rules.specs.Step.{done}
+use Rattle.rules.specs.Ranges.{InRange, InBytes}
+use Rattle.rules.specs.declared.codes.Code.{Code}
+use Rattle.rules.specs.declared.codes.Code.the-variants.{Done, BeyondLimit}
+use Rattle.rules.specs.declared.records.Event.{Event}
+use Rattle.rules.specs.declared.chip.Conditions.{Conditions}
+use Rattle.rules.specs.declared.registers.Simode0.{Simode0}
+use Rattle.rules.specs.declared.registers.Simode1.{Simode1}
+use Rattle.rules.specs.declared.chip.Status.{Status}
+use Rattle.rules.proofs.Ranges.{after-d, bytes-after-d}
+use Rattle.image.specs.Image.{imageOf, stateAt, IsImage, withTransfer}
+use Rattle.settling.specs.Settled.{startOf}
+use Rattle.settled.specs.declared.Told.{Told}
+use Rattle.settled.specs.Settles.{endOf, Settles}
+use Rattle.given.specs.Answering.{answerWith}
+use Rattle.given.proofs.AnswerParts.{answer-parts}
+use Rattle.turns.specs.Closing.{closedBy}
+use Rattle.turns.specs.Given.{Gives}
+use Rattle.turns.proofs.Going.{image-is, state-is, onward}
+use Rattle.turns.proofs.PartsOfD as parts
+
+module _ (s : State) (e : Event) (i : InRange (afterB s e)) (j : InBytes (afterB s e)) {b : List ℕ} (h : b ≡ imageOf (afterB s e)) {c : Conditions} (k : c ≡ conditions (stateAt b)) {n : List ℕ} {t : Told} (w : Settles b c n t) where
+  state-b : stateAt b ≡ afterB s e
+  state-b = state-is (afterB s e) h i j
+
+  pub end-is : endOf b c ≡ settledC s e
+  unfolding settledC started startOf
+  end-is = (λ x. settle ((k ∙ ap conditions state-b) x) turns (startOf ((state-b x) .transfer)))
+
+  is-c : n ≡ imageOf (parts.settledState s e)
+  is-c = w .exact ∙ (λ x. imageOf (withTransfer ((end-is x) .transfer) (state-b x)))
+
+  pub image-c : IsImage n
+  image-c = image-is (parts.settledState s e) is-c (parts.settled-range s e i) (parts.settled-in-bytes s e j)
+
+  acks-are : t .acks ≡ (settledC s e) .acks
+  acks-are = w .acks ∙ ap (λ (x : Settling). x .acks) end-is
+
+  module _ {b0 : Simode0} {b1 : Simode1} {status : Status} (x : b0 ≡ s .registers .simode0) (y : b1 ≡ s .registers .simode1) (z : status ≡ (afterA s e) .status) {d : List ℕ} (q : d ≡ imageOf (closedBy b0 b1 status (t .acks) (stateAt n))) where
+    is-d : d ≡ imageOf (afterD s e)
+    is-d =
+        onward (closedBy b0 b1 status (t .acks)) (parts.settledState s e) is-c (parts.settled-range s e i) (parts.settled-in-bytes s e j) q
+        ∙ (λ v. imageOf (closedBy (x v) (y v) (z v) (acks-are v) (parts.settledState s e)))
+        ∙ ap imageOf (parts.all-of-d s e)
+
+    pub image-d : IsImage d
+    image-d = image-is (afterD s e) is-d (after-d s e i) (bytes-after-d s e j)
+
+    state-d : stateAt d ≡ afterD s e
+    state-d = state-is (afterD s e) is-d (after-d s e i) (bytes-after-d s e j)
+
+    pub gives : {code : Code} → code ≡ cond ((edgesOf s e) .beyond) BeyondLimit Done → {value : ℕ} → value ≡ valueRead s e → {r : List ℕ} → r ≡ answerBytes (answerWith (stateAt d) code value (t .moves) (t .acks) (t .sent)) → Gives (done s e) d r
+    unfolding done
+    gives o v p =
+        record {
+          image = is-d;
+          answer =
+              p
+              ∙ (λ l. answerBytes (answerWith (state-d l) (o l) (v l) ((w .moves ∙ ap (λ (x : Settling). x .moves) end-is) l) (acks-are l) ((w .sent ∙ ap (λ (x : Settling). padded 8 (x .sent)) end-is) l)))
+              ∙ ap answerBytes (sym (answer-parts (done s e)));
+        }
