@@ -2,6 +2,7 @@ pub mod Coding
 pub mod Going
 pub mod PartsOfA
 pub mod PartsOfD
+pub mod Refusing
 pub mod ThroughA
 pub mod ThroughB
 pub mod ThroughD
