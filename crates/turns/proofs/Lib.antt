@@ -3,6 +3,7 @@ pub mod Going
 pub mod PartsOfA
 pub mod PartsOfD
 pub mod Refusing
+pub mod Running
 pub mod ThroughA
 pub mod ThroughB
 pub mod ThroughD

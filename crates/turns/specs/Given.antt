@@ -1,11 +1,19 @@
 -- What an event on an image leaves and gives.
 use mathlib.Core.Path.{_≡_}
-use mathlib.Core.List.{List}
-use Prim.Native.Nat.{ℕ}
+use mathlib.Core.List.{List, _++_}
+use Prim.Native.Nat.{ℕ, _+_, _*_}
+use lib.ListN.{take, drop}
 use Rattle.rules.specs.Answers.{Stepped, answerOf, answerBytes}
-use Rattle.image.specs.Image.{imageOf}
+use Rattle.rules.specs.Step.{step, answer}
+use Rattle.image.specs.Image.{imageOf, stateAt}
+use Rattle.step.specs.Runs.{recordAt}
 
 -- the image of the new state, and the sixteen bytes of the answer
 pub record Gives (x : Stepped) (m r : List ℕ) : Type 0 where
   pub image : m ≡ imageOf (x .state)
   pub answer : r ≡ answerBytes (answerOf x)
+
+-- one record of a run: the image that record i leaves, and its answer in its place
+pub record IsTurn (m bytes before : List ℕ) (i : ℕ) (n buffer : List ℕ) : Type 0 where
+  pub image : n ≡ imageOf ((step (stateAt m) (recordAt i bytes)) .state)
+  pub answers : buffer ≡ (take (16 * i) before ++ answer (stateAt m) (recordAt i bytes)) ++ drop (16 * i + 16) before

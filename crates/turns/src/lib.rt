@@ -4,3 +4,4 @@ pub mod closing;
 pub mod coded;
 pub mod event;
 pub mod reset;
+pub mod run;
