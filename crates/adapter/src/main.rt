@@ -30,7 +30,7 @@ fn print(c: Chip, records: &[u8], text: &mut [u8]) -> Printed
     ensures { λ r. ⌜ IsPrinted c (now (records .entry)) (now (text .entry)) (now (text .exit)) r ⌝ }
 {
     let mut answers = [0u8; 16400];
-    let ran = step::run::run(c, records, &mut answers);
+    let ran = turns::run::run(c, records, &mut answers);
     let size = lines::print(&answers[..16 * ran.count], text);
     let chip = ran.chip;
     Printed {
