@@ -43,7 +43,7 @@ fn latches_written(k: Latches, offset: u8, value: u8) -> Latches
 }
 
 // Most writes are to other registers.
-fn latches_written_in(m: &mut [u8; 196], offset: u8, value: u8)
+pub fn latches_written_in(m: &mut [u8; 196], offset: u8, value: u8)
     requires { ⌜ IsImage (now m) ⌝ }
     ensures { λ _. ⌜ now (m .exit) ≡ imageOf (withLatches (latchesA ((stateAt (now (m .entry))) .latches) (Write offset value)) (stateAt (now (m .entry)))) ⌝ }
 {

@@ -60,7 +60,7 @@ fn status_kept(accessed: bool, acked: bool, enspchk: bool, t: Status) -> Status
 }
 
 // "While ENSPCHK is 0, SCSIPERR is held at 0": at every event. Most change nothing.
-fn status_kept_in(m: &mut [u8; 196], accessed: bool, acked: bool)
+pub fn status_kept_in(m: &mut [u8; 196], accessed: bool, acked: bool)
     requires { ⌜ IsImage (now m) ⌝ }
     ensures { λ _. ⌜ now (m .exit) ≡ imageOf (withStatus (statusA accessed acked ((stateAt (now (m .entry))) .registers .sxfrctl1 .enspchk) ((stateAt (now (m .entry))) .status) WordRead) (stateAt (now (m .entry)))) ⌝ }
 {
@@ -74,7 +74,7 @@ fn status_kept_in(m: &mut [u8; 196], accessed: bool, acked: bool)
 }
 
 // Most writes are to other registers.
-fn status_written_in(m: &mut [u8; 196], accessed: bool, acked: bool, offset: u8, value: u8)
+pub fn status_written_in(m: &mut [u8; 196], accessed: bool, acked: bool, offset: u8, value: u8)
     requires { ⌜ IsImage (now m) ⌝ }
     ensures { λ _. ⌜ now (m .exit) ≡ imageOf (withStatus (statusA accessed acked ((stateAt (now (m .entry))) .registers .sxfrctl1 .enspchk) ((stateAt (now (m .entry))) .status) (Write offset value)) (stateAt (now (m .entry)))) ⌝ }
 {

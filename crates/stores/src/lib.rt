@@ -16,7 +16,7 @@ use rules::records::Event;
 use rules::records::Lines;
 
 // The three bytes of the lines.
-fn lines_stored(m: &mut [u8; 196], lines: Lines)
+pub fn lines_stored(m: &mut [u8; 196], lines: Lines)
     requires { ⌜ IsImage (now m) ⌝ }
     ensures { λ _. ⌜ now (m .exit) ≡ imageOf (withLines lines (stateAt (now (m .entry)))) ⌝ }
 {
@@ -37,7 +37,7 @@ pub fn lines_in(m: &mut [u8; 196], e: Event)
 }
 
 // "35Fh gives the 32 ID bytes in turn and starts again"
-fn identity_read(m: &mut [u8; 196], offset: u8)
+pub fn identity_read(m: &mut [u8; 196], offset: u8)
     requires { ⌜ IsImage (now m) ⌝ }
     ensures { λ _. ⌜ now (m .exit) ≡ imageOf (withIdentity (identityA ((stateAt (now (m .entry))) .identity) (Read offset)) (stateAt (now (m .entry)))) ⌝ }
 {

@@ -25,7 +25,7 @@ fn next_of(enstk32: bool, pointer: u8) -> u8
 }
 
 // A write of 35Dh.
-fn pushed(m: &mut [u8; 196], value: u8)
+pub fn pushed(m: &mut [u8; 196], value: u8)
     requires { ⌜ IsImage (now m) ⌝ }
     ensures { λ _. ⌜ now (m .exit) ≡ imageOf (withStack (stackWritten ((stateAt (now (m .entry))) .registers .dmacntrl1 .enstk32) value ((stateAt (now (m .entry))) .stack)) (stateAt (now (m .entry)))) ⌝ }
 {
@@ -38,7 +38,7 @@ fn pushed(m: &mut [u8; 196], value: u8)
 }
 
 // A read of 35Dh.
-fn popped(m: &mut [u8; 196])
+pub fn popped(m: &mut [u8; 196])
     requires { ⌜ IsImage (now m) ⌝ }
     ensures { λ _. ⌜ now (m .exit) ≡ imageOf (withStack (stackRead ((stateAt (now (m .entry))) .registers .dmacntrl1 .enstk32) ((stateAt (now (m .entry))) .stack)) (stateAt (now (m .entry)))) ⌝ }
 {
@@ -48,7 +48,7 @@ fn popped(m: &mut [u8; 196])
 }
 
 // A write: 35Dh stores, 353h points ("pointer 4-0").
-fn stack_written(m: &mut [u8; 196], offset: u8, value: u8)
+pub fn stack_written(m: &mut [u8; 196], offset: u8, value: u8)
     requires { ⌜ IsImage (now m) ⌝ }
     ensures { λ _. ⌜ now (m .exit) ≡ imageOf (withStack (stackA ((stateAt (now (m .entry))) .registers .dmacntrl1 .enstk32) ((stateAt (now (m .entry))) .stack) (Write offset value)) (stateAt (now (m .entry)))) ⌝ }
 {
@@ -60,7 +60,7 @@ fn stack_written(m: &mut [u8; 196], offset: u8, value: u8)
 }
 
 // A read: of 35Dh.
-fn stack_read(m: &mut [u8; 196], offset: u8)
+pub fn stack_read(m: &mut [u8; 196], offset: u8)
     requires { ⌜ IsImage (now m) ⌝ }
     ensures { λ _. ⌜ now (m .exit) ≡ imageOf (withStack (stackA ((stateAt (now (m .entry))) .registers .dmacntrl1 .enstk32) ((stateAt (now (m .entry))) .stack) (Read offset)) (stateAt (now (m .entry)))) ⌝ }
 {

@@ -39,7 +39,7 @@ fn atn_cleared(sig: u8, value: u8) -> u8
 }
 
 // A register that a write finds: its byte without the bits that are not stored.
-fn stored(m: &mut [u8; 196], register: Register, value: u8)
+pub fn stored(m: &mut [u8; 196], register: Register, value: u8)
     requires { ⌜ IsImage (now m) ⌝ }
     requires { ⌜ Written register ⌝ }
     ensures { λ _. ⌜ now (m .exit) ≡ imageOf (withRegisters (registersA ((stateAt (now (m .entry))) .registers) (Write (offsetOf register) value)) (stateAt (now (m .entry)))) ⌝ }

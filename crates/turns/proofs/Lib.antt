@@ -1,10 +1,6 @@
-pub mod Coding
-pub mod Going
-pub mod PartsOfA
 pub mod PartsOfD
 pub mod Refusing
 pub mod Running
-pub mod ThroughA
 pub mod ThroughB
 pub mod ThroughD
 pub mod ThroughAll

@@ -14,7 +14,7 @@ use Rattle.image.specs.Image.{imageOf, stateAt, IsImage}
 use Rattle.given.specs.Answering.{answerWith}
 use Rattle.given.proofs.AnswerParts.{answer-parts}
 use Rattle.turns.specs.Given.{Gives}
-use Rattle.turns.proofs.Going.{image-is, state-is}
+use Rattle.acted.proofs.Going.{image-is, state-is}
 
 pub refused-answer : (s : State) (code : Code) (value : ℕ) → answerBytes (answerWith s code value 0 0 (replicate 8 0)) ≡ answerBytes (answerOf (refused s code value))
 unfolding refused padded

@@ -19,7 +19,7 @@ use Rattle.step.specs.Runs as runs
 use Rattle.step.specs.Runs.{recordAt, recordsOf, joined}
 use Rattle.step.proofs.Running.{chip-next, answers-more}
 use Rattle.turns.specs.Given.{Gives, IsTurn}
-use Rattle.turns.proofs.Going.{image-is, state-is}
+use Rattle.acted.proofs.Going.{image-is, state-is}
 
 -- the state laid out is the state that stands there
 pub laid-out : (s : State) → InRange s → stateAt (imageOf s) ≡ s

@@ -30,7 +30,7 @@ use Rattle.given.specs.Answering.{answerWith}
 use Rattle.given.proofs.AnswerParts.{answer-parts}
 use Rattle.turns.specs.Closing.{closedBy}
 use Rattle.turns.specs.Given.{Gives}
-use Rattle.turns.proofs.Going.{image-is, state-is, onward}
+use Rattle.acted.proofs.Going.{image-is, state-is, onward}
 use Rattle.turns.proofs.PartsOfD as parts
 
 module _ (s : State) (e : Event) (i : InRange (afterB s e)) (j : InBytes (afterB s e)) {b : List ℕ} (h : b ≡ imageOf (afterB s e)) {c : Conditions} (k : c ≡ conditions (stateAt b)) {n : List ℕ} {t : Told} (w : Settles b c n t) where

@@ -19,8 +19,8 @@ use Rattle.image.specs.Image.{imageOf, stateAt, registersAt, linesAt, IsImage}
 use Rattle.edged.specs.From.{edgesFrom, appliedFrom}
 use Rattle.edged.specs.Room.{Room}
 use Rattle.edged.proofs.From.{edges-from, applied-from}
-use Rattle.turns.proofs.Going.{image-is, state-is}
-use Rattle.turns.proofs.ThroughA.{a-fits, a-bytes}
+use Rattle.acted.proofs.Going.{image-is, state-is}
+use Rattle.acted.proofs.ThroughA.{a-fits, a-bytes}
 
 module _ {m : List ℕ} (g : IsImage m) (e : Event) (f : EventFits e) (d : accessCode (stateAt m) e ≡ Done) {n : List ℕ} (h : n ≡ imageOf (afterA (stateAt m) e)) where
   abbrev s : State

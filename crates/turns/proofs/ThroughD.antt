@@ -10,7 +10,7 @@ use Rattle.rules.specs.declared.registers.Simode1.{Simode1}
 use Rattle.rules.specs.declared.chip.Status.{Status}
 use Rattle.image.specs.Image.{imageOf, stateAt, statusOf, IsImage}
 use Rattle.turns.specs.Closing.{raisedBy, fallenBy, latchedBy, closedBy}
-use Rattle.turns.proofs.Going.{image-is, state-is, onward}
+use Rattle.acted.proofs.Going.{image-is, state-is, onward}
 
 -- the status that an image's byte holds
 pub status-of : (m : List ℕ) {t : State} → stateAt m ≡ t → statusOf (getD m 12 0) ≡ t .status

@@ -1,7 +1,5 @@
 // One event on the chip in the bytes of one array: the checks, then A, B, C and D, each in place.
-pub mod acting;
 pub mod closing;
-pub mod coded;
 pub mod event;
 pub mod reset;
 pub mod run;

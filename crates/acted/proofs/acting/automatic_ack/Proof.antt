@@ -1,6 +1,6 @@
 use borrow.Author.Needs.{needs}
-use Rattle.turns.proofs.acting.automatic_ack.Statement.{statement}
-use Rattle.turns.proofs.acting.automatic_ack.Tie as tie
+use Rattle.acted.proofs.acting.automatic_ack.Statement.{statement}
+use Rattle.acted.proofs.acting.automatic_ack.Tie as tie
 
 returns : tie.Need-returns
 returns c = rw (c .before .before .before .if1 .taken, c .before .matched .ensures, c .before .before .automatic .ensures)

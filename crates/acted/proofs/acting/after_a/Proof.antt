@@ -1,7 +1,7 @@
 use borrow.Author.Needs.{needs}
-use Rattle.turns.proofs.ThroughA as through
-use Rattle.turns.proofs.acting.after_a.Statement.{statement}
-use Rattle.turns.proofs.acting.after_a.Tie as tie
+use Rattle.acted.proofs.ThroughA as through
+use Rattle.acted.proofs.acting.after_a.Statement.{statement}
+use Rattle.acted.proofs.acting.after_a.Tie as tie
 
 path-in-requires : tie.Need-path-in-requires
 path-in-requires c κs =

@@ -4,9 +4,9 @@ use mathlib.Core.Path.{_≡_, ap, sym, subst, _∙_}
 use Rattle.rules.specs.declared.registers.Dmacntrl0.{Dmacntrl0}
 use Rattle.checks.specs.CodeBy.{codeBy}
 use Rattle.image.specs.Image.{stateAt}
-use Rattle.turns.proofs.Coding.{held-fits, code-at-is}
-use Rattle.turns.proofs.coded.code_at.Statement.{statement}
-use Rattle.turns.proofs.coded.code_at.Tie as tie
+use Rattle.acted.proofs.Coding.{held-fits, code-at-is}
+use Rattle.acted.proofs.coded.code_at.Statement.{statement}
+use Rattle.acted.proofs.coded.code_at.Tie as tie
 
 access-code-requires : tie.Need-access-code-requires
 access-code-requires c κs = rw (c .wide .ensures) (held-fits (c .before .before .before .before .pre))

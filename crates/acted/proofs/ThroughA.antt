@@ -14,8 +14,8 @@ use Rattle.rules.specs.declared.records.Event.{Event}
 use Rattle.rules.proofs.Ranges.{after-a-fits, bytes-after-a, port-room}
 use Rattle.ports.specs.Ready.{Room}
 use Rattle.image.specs.Image.{imageOf, stateAt, registersAt, linesAt, IsImage, withLines, withRegisters, withTransfer, withStatus, withLatches, withStack, withIdentity}
-use Rattle.turns.proofs.Going.{image-is, state-is, onward}
-use Rattle.turns.proofs.PartsOfA as parts
+use Rattle.acted.proofs.Going.{image-is, state-is, onward}
+use Rattle.acted.proofs.PartsOfA as parts
 
 pub acked-is : (m : List ℕ) (e : Event) {x y : Bool} → x ≡ latchAccess (stateAt m) e → y ≡ (x && automatic (registersAt m) && matched (registersAt m) (linesAt m) && reqSeen (registersAt m) (linesAt m)) → y ≡ automaticAck (stateAt m) e
 unfolding automaticAck stateAt

@@ -1,8 +1,8 @@
 use borrow.Author.Needs.{needs}
 use Rattle.rules.specs.StepA.{latchAccess}
 use Rattle.image.specs.Image.{stateAt}
-use Rattle.turns.proofs.acting.latch_access.Statement.{statement}
-use Rattle.turns.proofs.acting.latch_access.Tie as tie
+use Rattle.acted.proofs.acting.latch_access.Statement.{statement}
+use Rattle.acted.proofs.acting.latch_access.Tie as tie
 
 returns : tie.Need-returns
 unfolding latchAccess stateAt

@@ -1,0 +1,5 @@
+pub mod Coding
+pub mod Endings
+pub mod Going
+pub mod PartsOfA
+pub mod ThroughA

@@ -1,0 +1,1 @@
+// A register read, by what stands at its offset.

@@ -1,0 +1,1 @@
+// A register write, by what stands at its offset.
