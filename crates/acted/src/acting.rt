@@ -2,15 +2,21 @@
 ghost use mathlib.Core.Path.{_≡_};
 ghost use mathlib.Core.Bool.{_&&_};
 ghost use Rattle.rules.specs.Seen.{automatic, matched, reqSeen};
-ghost use Rattle.rules.specs.Codes.{accessCode};
+ghost use Rattle.rules.specs.Codes.{accessCode, isDone};
+ghost use Rattle.rules.specs.Events.{ticksOf};
 ghost use Rattle.rules.specs.Ranges.{EventFits};
 ghost use Rattle.rules.specs.StepA.{latchAccess, automaticAck, afterA};
 ghost use Rattle.rules.specs.declared.codes.Code.the-variants.{Done};
 ghost use Rattle.image.specs.Image.{IsImage, imageOf, stateAt, registersAt, linesAt};
+ghost use Rattle.acted.specs.Acting.{Acts};
+use crate::Acted;
+use crate::coded::code_at;
 use effects::events::reads;
 use effects::events::writes;
 use image::bus::automatic;
 use image::bus::matched;
+use given::values::value_read;
+use rules::codes::Code;
 use rules::map::Register;
 use rules::records::Event;
 
@@ -52,4 +58,55 @@ pub fn after_a(m: &mut [u8; 196], e: Event)
     flags::latches::latches_in(m, e);
     stores::lines_in(m, e);
     stores::identity_in(m, e);
+}
+
+fn ticks_of(e: Event) -> u32
+    ensures { λ r. ⌜ r ≡ ticksOf e ⌝ }
+{
+    match e {
+        Event::Ticks(n) => n,
+        _ => 0,
+    }
+}
+
+fn is_done(code: Code) -> bool
+    ensures { λ r. ⌜ r ≡ isDone code ⌝ }
+{
+    match code {
+        Code::Done => true,
+        Code::Malformed => false,
+        Code::Absent => false,
+        Code::Shut => false,
+        Code::NoRoom => false,
+        Code::NoBytes => false,
+        Code::BeyondLimit => false,
+        Code::TestValue => false,
+    }
+}
+
+// An event, its code first: "Checked in the order 1, 2, 7, 3, then 4 or 5".
+pub fn event_in(m: &mut [u8; 196], e: Event) -> Acted
+    requires { ⌜ IsImage (now m) ⌝ }
+    requires { ⌜ EventFits e ⌝ }
+    ensures { λ r. ⌜ Acts (stateAt (now (m .entry))) e (now (m .exit)) r ⌝ }
+{
+    let code = code_at(m, e);
+    let ticks = ticks_of(e);
+    if is_done(code) {
+        let value = value_read(m, e);
+        after_a(m, e);
+        return Acted {
+            code: code,
+            value: value,
+            ticks: ticks,
+            ends: false,
+        };
+    }
+    let value = wire::refused_value(e);
+    Acted {
+        code: code,
+        value: value,
+        ticks: ticks,
+        ends: true,
+    }
 }

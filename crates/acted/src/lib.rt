@@ -5,6 +5,7 @@ use rules::codes::Code;
 
 pub mod acting;
 pub mod coded;
+pub mod driving;
 pub mod reading;
 pub mod writing;
 

@@ -65,3 +65,14 @@ pub fn applied_in(m: &mut [u8; 196], g: Edges, was: Before)
     after::status_in(m, g, seen & !was.mismatched);
     m[20] = g.quiet;
 }
+
+// B on an image: the edges found and applied; whether a REQ went beyond the limit.
+pub fn edges_in(m: &mut [u8; 196], was: Before, ticks: u32) -> bool
+    requires { ⌜ IsImage (now m) ⌝ }
+    ensures { λ b. ⌜ b ≡ (edgesFrom (was .rst) (was .req) (stateAt (now (m .entry))) ticks) .beyond ⌝ }
+    ensures { λ _. ⌜ now (m .exit) ≡ imageOf (appliedFrom (edgesFrom (was .rst) (was .req) (stateAt (now (m .entry))) ticks) (was .mismatched) (stateAt (now (m .entry)))) ⌝ }
+{
+    let g = edges_of(m, was, ticks);
+    applied_in(m, g, was);
+    g.beyond
+}

@@ -9,7 +9,7 @@ use Rattle.rules.specs.Numbers.{bit, one, byteOf}
 use Rattle.rules.specs.Interrupts.{anyLatch}
 use Rattle.image.specs.Image.{latchesOf}
 
-one-bit : (x : ℕ) → x < 2 → one (eqb x 1) ≡ x
+pub one-bit : (x : ℕ) → x < 2 → one (eqb x 1) ≡ x
 one-bit zero h = refl
 one-bit (suc zero) h = refl
 one-bit (suc (suc x)) h = absurd (omega arith)
@@ -27,17 +27,17 @@ top-3 v = rw (one-bit (v / 2 ^ 3 % 2) (omega arith)) (omega arith)
 top-2 : (v : ℕ) → v % 8 ≡ one (bit v 2) * 4 + v % 4
 top-2 v = rw (one-bit (v / 2 ^ 2 % 2) (omega arith)) (omega arith)
 
-top-1 : (v : ℕ) → v % 4 ≡ one (bit v 1) * 2 + v % 2
+pub top-1 : (v : ℕ) → v % 4 ≡ one (bit v 1) * 2 + v % 2
 top-1 v = rw (one-bit (v / 2 ^ 1 % 2) (omega arith)) (omega arith)
 
-top-0 : (v : ℕ) → v % 2 ≡ one (bit v 0)
+pub top-0 : (v : ℕ) → v % 2 ≡ one (bit v 0)
 top-0 v = rw (one-bit (v / 2 ^ 0 % 2) (omega arith)) (omega arith)
 
 sum : (b5 b4 b3 b2 b1 b0 r5 r4 r3 r2 r1 r0 : ℕ) → r5 ≡ b5 * 32 + r4 → r4 ≡ b4 * 16 + r3 → r3 ≡ b3 * 8 + r2 → r2 ≡ b2 * 4 + r1 → r1 ≡ b1 * 2 + r0 → r0 ≡ b0 → 0 * 128 + 0 * 64 + b5 * 32 + b4 * 16 + b3 * 8 + b2 * 4 + b1 * 2 + b0 ≡ r5
 sum b5 b4 b3 b2 b1 b0 r5 r4 r3 r2 r1 r0 h5 h4 h3 h2 h1 h0 = omega arith
 
 -- the six low bits of a number
-six : (v : ℕ) → byteOf false false (bit v 5) (bit v 4) (bit v 3) (bit v 2) (bit v 1) (bit v 0) ≡ v % 64
+pub six : (v : ℕ) → byteOf false false (bit v 5) (bit v 4) (bit v 3) (bit v 2) (bit v 1) (bit v 0) ≡ v % 64
 six v = sum (one (bit v 5)) (one (bit v 4)) (one (bit v 3)) (one (bit v 2)) (one (bit v 1)) (one (bit v 0)) (v % 64) (v % 32) (v % 16) (v % 8) (v % 4) (v % 2) (top-5 v) (top-4 v) (top-3 v) (top-2 v) (top-1 v) (top-0 v)
 
 some-set : (a b c d e f : Bool) → not (eqb (byteOf false false a b c d e f) 0) ≡ (a || b || c || d || e || f)

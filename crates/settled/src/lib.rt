@@ -39,7 +39,16 @@ pub fn conditions_of(m: &[u8; 196]) -> Conditions
 }
 
 // Settling of an event.
-pub fn settle(m: &mut [u8; 196], c: Conditions) -> Told
+pub fn settle(m: &mut [u8; 196]) -> Told
+    requires { ⌜ IsImage (now m) ⌝ }
+    ensures { λ r. ⌜ Settles (now (m .entry)) (conditions (stateAt (now (m .entry)))) (now (m .exit)) r ⌝ }
+{
+    let c = conditions_of(m);
+    settled_by(m, c)
+}
+
+// Settling under conditions.
+pub fn settled_by(m: &mut [u8; 196], c: Conditions) -> Told
     requires { ⌜ IsImage (now m) ⌝ }
     ensures { λ r. ⌜ Settles (now (m .entry)) c (now (m .exit)) r ⌝ }
 {

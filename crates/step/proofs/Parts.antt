@@ -172,16 +172,6 @@ module _ (c : Chip) (e : Event) (t : Tidy c) where
       p ∙ ap (λ (r : Registers). codeBy (r .dmacntrl0) (c .path .host .count) e) (tidy-registers c t)
       ∙ ap (λ (n : ℕ). codeBy (view c .registers .dmacntrl0) n e) (tidy-host c t) ∙ sym (access-code-by (view c) e)
 
-pub code-done : (code : Code) → isDone code ≡ true → code ≡ Done
-code-done Done h = refl
-code-done Malformed h = absurd (never h)
-code-done Absent h = absurd (never h)
-code-done Shut h = absurd (never h)
-code-done NoRoom h = absurd (never h)
-code-done NoBytes h = absurd (never h)
-code-done BeyondLimit h = absurd (never h)
-code-done TestValue h = absurd (never h)
-
 pub access-done : (s : State) (e : Event) → isDone (accessCode s e) ≡ true → done s e ≡ access s e
 unfolding access
 access-done s e h = rw h

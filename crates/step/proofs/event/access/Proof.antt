@@ -5,6 +5,7 @@ use Rattle.rules.specs.Step.{refused}
 use Rattle.rules.specs.Codes.{accessCode, isDone, refusedValue}
 use Rattle.rules.specs.Chips.{view}
 use mathlib.Core.Path.{_≡_, refl, ap, sym, _∙_}
+use Rattle.checks.proofs.DoneCode.{code-done}
 use Rattle.step.proofs.Parts as parts
 use borrow.Author.Needs.{needs}
 use Rattle.step.proofs.event.access.Statement.{statement}
@@ -17,7 +18,7 @@ is-done-requires : tie.Need-is-done-requires
 is-done-requires c κs = search needs
 
 done-requires : tie.Need-done-requires
-done-requires c κs = let q = parts.code-is (c .before .before .before .before .args .c) (c .before .before .before .before .args .e) (c .before .before .before .before .pre .0) (c .before .before .access-code .result) (c .before .before .access-code .ensures) in (c .before .before .before .before .pre .0, (c .before .before .before .before .pre .1, sym q ∙ parts.code-done (c .before .before .access-code .result) (sym (c .before .is-done .ensures) ∙ c .if1 .taken)))
+done-requires c κs = let q = parts.code-is (c .before .before .before .before .args .c) (c .before .before .before .before .args .e) (c .before .before .before .before .pre .0) (c .before .before .access-code .result) (c .before .before .access-code .ensures) in (c .before .before .before .before .pre .0, (c .before .before .before .before .pre .1, sym q ∙ code-done (c .before .before .access-code .result) (sym (c .before .is-done .ensures) ∙ c .if1 .taken)))
 
 refused-value-requires : tie.Need-refused-value-requires
 refused-value-requires c κs = search needs
