@@ -1,6 +1,7 @@
+pub mod Answered
 pub mod PartsOfD
-pub mod Refusing
 pub mod Running
+pub mod Starts
+pub mod ThroughAll
 pub mod ThroughB
 pub mod ThroughD
-pub mod ThroughAll

@@ -1,12 +1,10 @@
--- C, D and the answer, on the image that B left.
+-- C and D, on the image that B left.
 use mathlib.Core.Path.{_≡_, ap, sym, _∙_}
 use mathlib.Core.Bool.{cond}
 use mathlib.Core.List.{List}
 use Prim.Native.Nat.{ℕ}
 use Rattle.rules.specs.Numbers.{padded}
 use Rattle.rules.specs.State.{State}
-use Rattle.rules.specs.Registers.{simode0Of, simode1Of}
-use Rattle.rules.specs.Answers.{answerOf, answerBytes}
 use Rattle.rules.specs.Reads.{valueRead}
 use Rattle.rules.specs.StepA.{afterA}
 use Rattle.rules.specs.StepB.{edges, edgesOf, afterB}
@@ -17,29 +15,25 @@ use Rattle.rules.specs.Ranges.{InRange, InBytes}
 use Rattle.rules.specs.declared.codes.Code.{Code}
 use Rattle.rules.specs.declared.codes.Code.the-variants.{Done, BeyondLimit}
 use Rattle.rules.specs.declared.records.Event.{Event}
-use Rattle.rules.specs.declared.chip.Conditions.{Conditions}
 use Rattle.rules.specs.declared.registers.Simode0.{Simode0}
 use Rattle.rules.specs.declared.registers.Simode1.{Simode1}
 use Rattle.rules.specs.declared.chip.Status.{Status}
-use Rattle.rules.proofs.Ranges.{after-d, bytes-after-d}
 use Rattle.image.specs.Image.{imageOf, stateAt, IsImage, withTransfer}
 use Rattle.settling.specs.Settled.{startOf}
 use Rattle.settled.specs.declared.Told.{Told}
 use Rattle.settled.specs.Settles.{endOf, Settles}
-use Rattle.given.specs.Answering.{answerWith}
-use Rattle.given.proofs.AnswerParts.{answer-parts}
 use Rattle.turns.specs.Closing.{closedBy}
-use Rattle.turns.specs.Given.{Gives}
+use Rattle.turns.specs.Given.{Leaves}
 use Rattle.acted.proofs.Going.{image-is, state-is, onward}
 use Rattle.turns.proofs.PartsOfD as parts
 
-module _ (s : State) (e : Event) (i : InRange (afterB s e)) (j : InBytes (afterB s e)) {b : List ℕ} (h : b ≡ imageOf (afterB s e)) {c : Conditions} (k : c ≡ conditions (stateAt b)) {n : List ℕ} {t : Told} (w : Settles b c n t) where
+module _ (s : State) (e : Event) (i : InRange (afterB s e)) (j : InBytes (afterB s e)) {b : List ℕ} (h : b ≡ imageOf (afterB s e)) {n : List ℕ} {t : Told} (w : Settles b (conditions (stateAt b)) n t) where
   state-b : stateAt b ≡ afterB s e
   state-b = state-is (afterB s e) h i j
 
-  pub end-is : endOf b c ≡ settledC s e
+  end-is : endOf b (conditions (stateAt b)) ≡ settledC s e
   unfolding settledC started startOf
-  end-is = (λ x. settle ((k ∙ ap conditions state-b) x) turns (startOf ((state-b x) .transfer)))
+  end-is = ap (λ (x : State). settle (conditions x) turns (startOf (x .transfer))) state-b
 
   is-c : n ≡ imageOf (parts.settledState s e)
   is-c = w .exact ∙ (λ x. imageOf (withTransfer ((end-is x) .transfer) (state-b x)))
@@ -57,19 +51,14 @@ module _ (s : State) (e : Event) (i : InRange (afterB s e)) (j : InBytes (afterB
         ∙ (λ v. imageOf (closedBy (x v) (y v) (z v) (acks-are v) (parts.settledState s e)))
         ∙ ap imageOf (parts.all-of-d s e)
 
-    pub image-d : IsImage d
-    image-d = image-is (afterD s e) is-d (after-d s e i) (bytes-after-d s e j)
-
-    state-d : stateAt d ≡ afterD s e
-    state-d = state-is (afterD s e) is-d (after-d s e i) (bytes-after-d s e j)
-
-    pub gives : {code : Code} → code ≡ cond ((edgesOf s e) .beyond) BeyondLimit Done → {value : ℕ} → value ≡ valueRead s e → {r : List ℕ} → r ≡ answerBytes (answerWith (stateAt d) code value (t .moves) (t .acks) (t .sent)) → Gives (done s e) d r
+    pub leaves : {code : Code} → code ≡ cond ((edgesOf s e) .beyond) BeyondLimit Done → {value : ℕ} → value ≡ valueRead s e → Leaves (done s e) d (record { code = code; value = value; moves = t .moves; acks = t .acks; sent = t .sent })
     unfolding done
-    gives o v p =
+    leaves o v =
         record {
           image = is-d;
-          answer =
-              p
-              ∙ (λ l. answerBytes (answerWith (state-d l) (o l) (v l) ((w .moves ∙ ap (λ (x : Settling). x .moves) end-is) l) (acks-are l) ((w .sent ∙ ap (λ (x : Settling). padded 8 (x .sent)) end-is) l)))
-              ∙ ap answerBytes (sym (answer-parts (done s e)));
+          code = o;
+          value = v;
+          moves = w .moves ∙ ap (λ (x : Settling). x .moves) end-is;
+          acks = acks-are;
+          sent = w .sent ∙ ap (λ (x : Settling). padded 8 (x .sent)) end-is;
         }

@@ -1,9 +1,8 @@
 -- B, on the image that A left.
-use mathlib.Core.Path.{_≡_, ap, sym, subst, _∙_}
-use mathlib.Core.Bool.{Bool, true}
+use mathlib.Core.Path.{_≡_, ap, sym, _∙_}
+use mathlib.Core.Bool.{Bool}
 use mathlib.Core.List.{List}
-use Prim.Native.Nat.{ℕ, _<_}
-use lib.ListN.{length}
+use Prim.Native.Nat.{ℕ}
 use Rattle.rules.specs.State.{State}
 use Rattle.rules.specs.Seen.{rstSeen, reqSeen, mismatched}
 use Rattle.rules.specs.Events.{ticksOf}
@@ -14,54 +13,45 @@ use Rattle.rules.specs.Ranges.{InRange, InBytes, EventFits}
 use Rattle.rules.specs.declared.codes.Code.the-variants.{Done}
 use Rattle.rules.specs.declared.records.Event.{Event}
 use Rattle.rules.specs.declared.chip.Edges.{Edges}
-use Rattle.rules.proofs.Ranges.{after-b-fits, bytes-after-b, offset-room, scsi-room}
-use Rattle.image.specs.Image.{imageOf, stateAt, registersAt, linesAt, IsImage}
+use Rattle.rules.proofs.Ranges.{after-a-fits, bytes-after-a, after-b-fits, bytes-after-b}
+use Rattle.image.specs.Image.{imageOf, stateAt, IsImage}
 use Rattle.edged.specs.From.{edgesFrom, appliedFrom}
-use Rattle.edged.specs.Room.{Room}
 use Rattle.edged.proofs.From.{edges-from, applied-from}
 use Rattle.acted.proofs.Going.{image-is, state-is}
-use Rattle.acted.proofs.ThroughA.{a-fits, a-bytes}
 
-module _ {m : List ℕ} (g : IsImage m) (e : Event) (f : EventFits e) (d : accessCode (stateAt m) e ≡ Done) {n : List ℕ} (h : n ≡ imageOf (afterA (stateAt m) e)) where
-  abbrev s : State
-  s = stateAt m
+module _ (s : State) (i : InRange s) (j : InBytes s) (e : Event) (f : EventFits e) (d : accessCode s e ≡ Done) {n : List ℕ} (h : n ≡ imageOf (afterA s e)) where
+  a-fits : InRange (afterA s e)
+  a-fits = after-a-fits s e f (ap isDone d) i
 
-  abbrev a : State
-  a = afterA s e
+  a-bytes : InBytes (afterA s e)
+  a-bytes = bytes-after-a s e f j
 
   pub image-a : IsImage n
-  image-a = image-is a h (a-fits g e f d) (a-bytes g e f d)
+  image-a = image-is (afterA s e) h a-fits a-bytes
 
-  pub state-a : stateAt n ≡ a
-  state-a = state-is a h (a-fits g e f d) (a-bytes g e f d)
+  pub state-a : stateAt n ≡ afterA s e
+  state-a = state-is (afterA s e) h a-fits a-bytes
 
   pub b-fits : InRange (afterB s e)
-  b-fits = after-b-fits s e f (ap isDone d) (g .range)
+  b-fits = after-b-fits s e f (ap isDone d) i
 
   pub b-bytes : InBytes (afterB s e)
-  b-bytes = bytes-after-b s e (a-bytes g e f d)
+  b-bytes = bytes-after-b s e a-bytes
 
-  module _ {rst req : Bool} (p : rst ≡ rstSeen (registersAt m) (linesAt m)) (q : req ≡ reqSeen (registersAt m) (linesAt m)) {ticks : ℕ} (t : ticks ≡ ticksOf e) {x : Edges} (k : x ≡ edgesFrom rst req (stateAt n) ticks) where
-    pub edges-are : x ≡ edges s a (ticksOf e)
-    unfolding stateAt
-    edges-are = k ∙ (λ i. edgesFrom (p i) (q i) (state-a i) (t i)) ∙ sym (edges-from s a (ticksOf e))
+  module _ {rst req : Bool} (p : rst ≡ rstSeen (s .registers) (s .lines)) (q : req ≡ reqSeen (s .registers) (s .lines)) {ticks : ℕ} (t : ticks ≡ ticksOf e) where
+    edges-are : edgesFrom rst req (stateAt n) ticks ≡ edgesOf s e
+    unfolding edgesOf
+    edges-are = (λ x. edgesFrom (p x) (q x) (state-a x) (t x)) ∙ sym (edges-from s (afterA s e) (ticksOf e))
 
-    pub room : Room x ((stateAt n) .transfer)
-    room =
-        record {
-          counted = λ c. subst (λ (y : State). y .transfer .offset < 8) (sym state-a) (offset-room s a (ticksOf e) (ap (λ (y : Edges). y .counted) (sym edges-are) ∙ c));
-          stored = λ c. subst (λ (y : State). length (y .transfer .scsi) < 8) (sym state-a) (scsi-room s a (ticksOf e) (ap (λ (y : Edges). y .stored) (sym edges-are) ∙ c));
-        }
+    pub beyond-is : {b : Bool} → b ≡ (edgesFrom rst req (stateAt n) ticks) .beyond → b ≡ (edgesOf s e) .beyond
+    beyond-is k = k ∙ ap (λ (g : Edges). g .beyond) edges-are
 
-    module _ {was : Bool} (r : was ≡ mismatched (registersAt m) (linesAt m)) {b : List ℕ} (l : b ≡ imageOf (appliedFrom x was (stateAt n))) where
+    module _ {was : Bool} (r : was ≡ mismatched (s .registers) (s .lines)) {b : List ℕ} (l : b ≡ imageOf (appliedFrom (edgesFrom rst req (stateAt n) ticks) was (stateAt n))) where
       pub is-b : b ≡ imageOf (afterB s e)
-      unfolding stateAt afterB edgesOf
+      unfolding afterB
       is-b =
-          l ∙ (λ i. imageOf (appliedFrom (edges-are i) (r i) (state-a i)))
-          ∙ ap imageOf (sym (applied-from (edges s a (ticksOf e)) s a))
+          l ∙ (λ x. imageOf (appliedFrom (edges-are x) (r x) (state-a x)))
+          ∙ ap imageOf (sym (applied-from (edgesOf s e) s (afterA s e)))
 
       pub image-b : IsImage b
       image-b = image-is (afterB s e) is-b b-fits b-bytes
-
-      pub state-b : stateAt b ≡ afterB s e
-      state-b = state-is (afterB s e) is-b b-fits b-bytes

@@ -16,7 +16,7 @@ use rules::records::Event;
 use rules::records::Lines;
 
 // The 24 bits after kind and offset.
-fn payload(b1: u8, b2: u8, b3: u8) -> u32
+pub fn payload(b1: u8, b2: u8, b3: u8) -> u32
     ensures { λ r. ⌜ r ≡ payloadOf b1 b2 b3 ⌝ }
 {
     let high = ((b1 as u32) << 8) | (b2 as u32);

@@ -1,0 +1,49 @@
+use borrow.Author.Needs.{needs}
+use mathlib.Core.Path.{_≡_, ap, _∙_}
+use mathlib.Core.Bool.{Bool, cond}
+use Rattle.rules.specs.declared.codes.Code.{Code}
+use Rattle.rules.specs.declared.codes.Code.the-variants.{Done, BeyondLimit}
+use Rattle.turns.proofs.ThroughB as b
+use Rattle.turns.proofs.ThroughD.{status-of}
+use Rattle.turns.proofs.ThroughAll as all
+use Rattle.turns.proofs.finishing.finished.Statement.{statement}
+use Rattle.turns.proofs.finishing.finished.Tie as tie
+
+edges-in-requires : tie.Need-edges-in-requires
+edges-in-requires c κs =
+    let w = c .before .before .pre in
+    b.image-a (w .state) (w .range) (w .bytes) (w .event) (w .fits) (w .done) (w .made)
+
+settle-requires : tie.Need-settle-requires
+settle-requires c κs =
+    let found = c .before in
+    let w = found .before .before .before .pre in
+    b.image-b (w .state) (w .range) (w .bytes) (w .event) (w .fits) (w .done) (w .made) (w .rst) (w .req) (w .ticks) (w .mismatched) (found .edges-in .ensures .1)
+
+closed-in-requires : tie.Need-closed-in-requires
+closed-in-requires c κs =
+    let settled = c .before in
+    let found = settled .before .before in
+    let w = found .before .before .before .pre in
+    all.image-c (w .state) (w .event) (b.b-fits (w .state) (w .range) (w .bytes) (w .event) (w .fits) (w .done) (w .made)) (b.b-bytes (w .state) (w .range) (w .bytes) (w .event) (w .fits) (w .done) (w .made))
+    (b.is-b (w .state) (w .range) (w .bytes) (w .event) (w .fits) (w .done) (w .made) (w .rst) (w .req) (w .ticks) (w .mismatched) (found .edges-in .ensures .1)) (settled .settle .ensures)
+
+abbrev beyond-code : Bool → Code
+beyond-code x = cond x BeyondLimit Done
+
+returns : tie.Need-returns
+returns c =
+    let code = c .before in
+    let closed = code .before in
+    let settled = closed .before .before in
+    let found = settled .before .before in
+    λ w.
+    all.leaves (w .state) (w .event) (b.b-fits (w .state) (w .range) (w .bytes) (w .event) (w .fits) (w .done) (w .made)) (b.b-bytes (w .state) (w .range) (w .bytes) (w .event) (w .fits) (w .done) (w .made))
+    (b.is-b (w .state) (w .range) (w .bytes) (w .event) (w .fits) (w .done) (w .made) (w .rst) (w .req) (w .ticks) (w .mismatched) (found .edges-in .ensures .1)) (settled .settle .ensures)
+    (w .simode0) (w .simode1) (status-of _ (b.state-a (w .state) (w .range) (w .bytes) (w .event) (w .fits) (w .done) (w .made))) (closed .closed-in .ensures)
+    (code .code-of .ensures ∙ ap beyond-code (b.beyond-is (w .state) (w .range) (w .bytes) (w .event) (w .fits) (w .done) (w .made) (w .rst) (w .req) (w .ticks) (found .edges-in .ensures .0))) (w .value)
+
+pub finished-spec : {M : Type 1} → statement M
+finished-spec =
+    tie.close
+    (tie.spec (λ c. search needs) edges-in-requires settle-requires closed-in-requires (λ c κs. search needs) returns)
