@@ -16,12 +16,13 @@ use Rattle.rules.specs.declared.chip.Conditions.{Conditions}
 use Rattle.rules.proofs.Logic.{cond-case}
 use Rattle.rules.proofs.Ranges.{bytes-append, bytes-drop, bytes-at}
 use Rattle.rules.proofs.Rest.{handshake-full}
+use Rattle.laws.proofs.Lists.{elements, elements-all, padded-length, padded-shift}
 use Rattle.settling.specs.Settled.{startOf, passed, acknowledged}
 use Rattle.settling.proofs.Parts.{passed-none}
 use Rattle.image.specs.Image.{headOf, imageOf, stateAt, IsImage, withTransfer}
-use Rattle.settled.specs.Laid.{laid, lowered}
+use Rattle.settled.specs.Laid.{laid}
 use Rattle.settled.specs.Steps.{byteOf}
-use Rattle.settled.proofs.Places.{Sized, flat, image-laid, scsi-joined, scsi-lowered, scsi-from}
+use Rattle.settled.proofs.Places.{Sized, flat, image-laid, scsi-joined, scsi-from}
 use Rattle.settled.proofs.Kept.{sized, image-long, offset-at, counter-at}
 use Rattle.settled.proofs.Carries.{scsi-held}
 
@@ -34,11 +35,22 @@ scsi-set : (s : State) (q : List ℕ) → set (laid (headOf s) q (s .stack .byte
 unfolding laid imageOf
 scsi-set s q = sym (flat (headOf (withTransfer (record { host = s .transfer .host; scsi = q; counter = s .transfer .counter; offset = s .transfer .offset; ack = s .transfer .ack; last = s .transfer .last }) s)) (padded 8 q) (s .stack .bytes) (padded 128 (s .transfer .host)))
 
+-- the byte behind a place put in it; so for the eight places of the SCSI FIFO, and 0 in the last
+abbrev lower : ℕ → List ℕ → List ℕ
+lower i m = set m i (getD m (i + 1) 0)
+
+abbrev shifted : List ℕ → List ℕ
+shifted m = set (lower 34 (lower 33 (lower 32 (lower 31 (lower 30 (lower 29 (lower 28 m))))))) 35 0
+
+shifted-eight : (s : State) (q r : List ℕ) → shifted (headOf s ++ (elements q 0 8 ++ r)) ≡ headOf s ++ (padded 8 (take 7 (drop 1 (elements q 0 8))) ++ r)
+unfolding padded
+shifted-eight s q r = refl
+
 -- a store is a byte put in a place
 set-paste : (m : List ℕ) (i b : ℕ) → i < length m → set m i b ≡ paste m i (b ∷ []) 1
 set-paste m i b h = set-split m i b h ∙ sym (append-snoc (take i m) b (drop (suc i) m)) ∙ ap (λ (n : ℕ). take i m ++ (b ∷ []) ++ drop n m) (sym (add-one i))
 
-module _ (s : State) (m m₁ : List ℕ) (b n : ℕ) (p : m ≡ imageOf s) (r : InRange s) (u : n ≡ length (s .transfer .scsi)) where
+module _ (s : State) (m : List ℕ) (b n : ℕ) (p : m ≡ imageOf s) (r : InRange s) (u : n ≡ length (s .transfer .scsi)) where
   z : Sized (headOf s) (s .transfer .scsi) (s .stack .bytes) (s .transfer .host)
   z = sized s (r .transfer) (r .stack)
 
@@ -50,15 +62,19 @@ module _ (s : State) (m m₁ : List ℕ) (b n : ℕ) (p : m ≡ imageOf s) (r : 
       sym (getD-drop 28 m 0 0) ∙ sym (getD-take 1 (drop 28 m) 0 0 (omega arith))
       ∙ ap (λ (l : List ℕ). getD l 0 0) (ap (λ (l : List ℕ). take 1 (drop 28 l)) w ∙ scsi-from z 1 h) ∙ getD-take 1 (s .transfer .scsi) 0 0 (omega arith)
 
-  sent-made : 0 < length (s .transfer .scsi) → b ≡ getD m 28 0 → m₁ ≡ lowered m 28 n 1 → set (set m₁ 19 b) 23 (n - 1) ≡ imageOf (withTransfer (passed true [] (s .transfer)) s)
-  unfolding passed
-  sent-made h e f =
-      let g : m₁ ≡ laid (headOf s) (drop 1 (s .transfer .scsi)) (s .stack .bytes) (s .transfer .host) = f ∙ ap (λ (l : List ℕ). lowered l 28 n 1) w ∙ scsi-lowered z n 1 u h in
-      let x : n - 1 ≡ length (drop 1 (s .transfer .scsi)) = simp length-drop (omega arith) in
+  sent-made : 0 < length (s .transfer .scsi) → b ≡ getD m 28 0 → set (set (shifted m) 19 b) 23 (n - 1) ≡ imageOf (withTransfer (passed true [] (s .transfer)) s)
+  unfolding passed laid
+  sent-made h e =
+      let q : List ℕ = s .transfer .scsi in
+      let t : List ℕ = s .stack .bytes ++ (padded 128 (s .transfer .host) ++ []) in
+      let y : padded 8 q ≡ elements (padded 8 q) 0 8 = sym (elements-all 8 (padded 8 q) (padded-length 8 q (z .scsi))) in
+      let v : padded 8 (take 7 (drop 1 (elements (padded 8 q) 0 8))) ≡ padded 8 (drop 1 q) = ap (λ (l : List ℕ). padded 8 (take 7 (drop 1 l))) (sym y) ∙ padded-shift 8 1 q h (z .scsi) in
+      let g : shifted m ≡ laid (headOf s) (drop 1 q) (s .stack .bytes) (s .transfer .host) = ap shifted (w ∙ ap (λ (l : List ℕ). headOf s ++ (l ++ t)) y) ∙ shifted-eight s (padded 8 q) t ∙ ap (λ (l : List ℕ). headOf s ++ (l ++ t)) v in
+      let x : n - 1 ≡ length (drop 1 q) = simp length-drop (omega arith) in
       ap (λ (l : List ℕ). set (set l 19 b) 23 (n - 1)) g
-      ∙ ap (λ (y : ℕ). set (set (laid (headOf s) (drop 1 (s .transfer .scsi)) (s .stack .bytes) (s .transfer .host)) 19 y) 23 (n - 1)) (e ∙ oldest h)
-      ∙ ap (λ (y : ℕ). set (set (laid (headOf s) (drop 1 (s .transfer .scsi)) (s .stack .bytes) (s .transfer .host)) 19 (getD (s .transfer .scsi) 0 0)) 23 y) x
-      ∙ last-set s (drop 1 (s .transfer .scsi)) (getD (s .transfer .scsi) 0 0)
+      ∙ ap (λ (y : ℕ). set (set (laid (headOf s) (drop 1 q) (s .stack .bytes) (s .transfer .host)) 19 y) 23 (n - 1)) (e ∙ oldest h)
+      ∙ ap (λ (y : ℕ). set (set (laid (headOf s) (drop 1 q) (s .stack .bytes) (s .transfer .host)) 19 (getD q 0 0)) 23 y) x
+      ∙ last-set s (drop 1 q) (getD q 0 0)
 
   stored-made : length (s .transfer .scsi) < 8 → set (set m (28 + n) b) 23 (n + 1) ≡ imageOf (withTransfer (passed false (b ∷ []) (s .transfer)) s)
   unfolding passed
@@ -107,13 +123,13 @@ module _ (s : State) (m m₁ : List ℕ) (n o : ℕ) (p : m ≡ imageOf s) (u : 
 -- the same of an image
 module _ (m : List ℕ) (i : IsImage m) where
   pub byte-oldest : 0 < length ((stateAt m) .transfer .scsi) → getD m 28 0 ≡ getD ((stateAt m) .transfer .scsi) 0 0
-  byte-oldest = oldest (stateAt m) m m 0 (length ((stateAt m) .transfer .scsi)) (i .packed) (i .range) refl
+  byte-oldest = oldest (stateAt m) m 0 (length ((stateAt m) .transfer .scsi)) (i .packed) (i .range) refl
 
-  pub byte-sent : (m₁ : List ℕ) (b n : ℕ) → n ≡ getD m 23 0 → 0 < length ((stateAt m) .transfer .scsi) → b ≡ getD m 28 0 → m₁ ≡ lowered m 28 n 1 → set (set m₁ 19 b) 23 (n - 1) ≡ imageOf (withTransfer (passed true [] ((stateAt m) .transfer)) (stateAt m))
-  byte-sent m₁ b n u = sent-made (stateAt m) m m₁ b n (i .packed) (i .range) (u ∙ scsi-held m i)
+  pub byte-sent : (b n : ℕ) → n ≡ getD m 23 0 → b ≡ getD m 28 0 → 0 < length ((stateAt m) .transfer .scsi) → set (set (shifted m) 19 b) 23 (n - 1) ≡ imageOf (withTransfer (passed true [] ((stateAt m) .transfer)) (stateAt m))
+  byte-sent b n u v h = sent-made (stateAt m) m b n (i .packed) (i .range) (u ∙ scsi-held m i) h v
 
   pub byte-stored : (b n : ℕ) → n ≡ getD m 23 0 → length ((stateAt m) .transfer .scsi) < 8 → set (set m (28 + n) b) 23 (n + 1) ≡ imageOf (withTransfer (passed false (b ∷ []) ((stateAt m) .transfer)) (stateAt m))
-  byte-stored b n u = stored-made (stateAt m) m m b n (i .packed) (i .range) (u ∙ scsi-held m i)
+  byte-stored b n u = stored-made (stateAt m) m b n (i .packed) (i .range) (u ∙ scsi-held m i)
 
   count-is : (n : ℕ) → n ≡ getD m 25 0 + 256 * getD m 26 0 + 65536 * getD m 27 0 → n ≡ (stateAt m) .transfer .counter
   count-is n e = e ∙ ap (λ (l : List ℕ). getD l 25 0 + 256 * getD l 26 0 + 65536 * getD l 27 0) (i .packed) ∙ counter-at (stateAt m) (i .range .transfer .counter)

@@ -1,7 +1,9 @@
 pub mod Carries
+pub mod Exits
 pub mod Going
 pub mod Handshakes
 pub mod Kept
+pub mod Looked
 pub mod Parts
 pub mod Pastes
 pub mod Places

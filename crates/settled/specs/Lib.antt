@@ -1,3 +1,4 @@
 pub mod Laid
+pub mod Looks
 pub mod Settles
 pub mod Steps

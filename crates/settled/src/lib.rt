@@ -1,9 +1,11 @@
 // C, settling, on the bytes of one array: "Repeat the first that is possible, until neither is".
 ghost use mathlib.Core.Path.{_≡_};
-ghost use Rattle.rules.specs.StepC.{conditions};
+ghost use mathlib.Core.Bool.{false};
+ghost use Prim.Native.Nat.{_-_, _≤_};
+ghost use Rattle.rules.specs.StepC.{conditions, canMove};
 ghost use Rattle.image.specs.Image.{IsImage, stateAt};
+ghost use Rattle.settled.specs.Looks.{lookedAt, mayShake};
 ghost use Rattle.settled.specs.Settles.{Settles};
-use image::bus::data_seen;
 use image::bus::matched;
 use image::bus::path;
 use image::bus::synchronous;
@@ -20,39 +22,61 @@ pub struct Told {
     pub acks: u8,
 }
 
-// What settling looks at and does not change.
-pub fn conditions_of(m: &[u8; 196]) -> Conditions
-    ensures { λ r. ⌜ r ≡ conditions (stateAt (now (m .entry))) ⌝ }
+// "Handshake, if SCSIEN, path, matched."
+fn enabled(m: &[u8; 196]) -> bool
+    ensures { λ r. ⌜ r ≡ (conditions (stateAt (now (m .entry)))) .enabled ⌝ }
 {
-    let way = path(m);
-    let phase = matched(m);
-    let kind = synchronous(m);
-    let seen = data_seen(m);
-    Conditions {
-        path: way,
-        enabled: ((m[1] >> 7) % 2 == 1) & way & phase,
-        outbound: (m[9] >> 3) % 2 == 1,
-        synchronous: kind,
-        req: (m[16] >> 1) % 2 == 1,
-        byte: seen,
+    if path(m) {
+        if (m[1] >> 7) % 2 == 1 {
+            matched(m)
+        } else {
+            false
+        }
+    } else {
+        false
     }
 }
 
-// Settling of an event.
-pub fn settle(m: &mut [u8; 196]) -> Told
-    requires { ⌜ IsImage (now m) ⌝ }
-    ensures { λ r. ⌜ Settles (now (m .entry)) (conditions (stateAt (now (m .entry)))) (now (m .exit)) r ⌝ }
+// What settling looks at and does not change; where a byte is stored, the lines alone are seen.
+fn conditions_of(m: &[u8; 196]) -> Conditions
+    ensures { λ r. ⌜ r ≡ lookedAt (stateAt (now (m .entry))) ⌝ }
 {
-    let c = conditions_of(m);
-    settled_by(m, c)
+    let way = path(m);
+    let able = enabled(m);
+    let kind = synchronous(m);
+    Conditions {
+        path: way,
+        enabled: able,
+        outbound: (m[9] >> 3) % 2 == 1,
+        synchronous: kind,
+        req: (m[16] >> 1) % 2 == 1,
+        byte: m[14],
+    }
 }
 
-// Settling under conditions.
-pub fn settled_by(m: &mut [u8; 196], c: Conditions) -> Told
-    requires { ⌜ IsImage (now m) ⌝ }
-    ensures { λ r. ⌜ Settles (now (m .entry)) c (now (m .exit)) r ⌝ }
+// Whether a handshake can come at all.
+fn possible(m: &[u8; 196]) -> bool
+    ensures { λ r. ⌜ r ≡ mayShake (stateAt (now (m .entry))) ⌝ }
 {
-    let mut moves = moves::moved(m, c);
+    if synchronous(m) {
+        0 < m[17]
+    } else {
+        if (m[16] >> 1) % 2 == 1 {
+            !(m[18] == 1)
+        } else {
+            false
+        }
+    }
+}
+
+// Handshakes, and the moves after each; made are the moves before them.
+fn shaking(m: &mut [u8; 196], c: Conditions, made: u8) -> Told
+    requires { ⌜ IsImage (now m) ⌝ }
+    requires { ⌜ canMove c ((stateAt (now m)) .transfer) ≡ false ⌝ }
+    requires { ⌜ made ≤ 16 ⌝ }
+    ensures { λ r. ⌜ (made ≤ r .moves) × Settles (now (m .entry)) c (now (m .exit)) (record { sent = r .sent; moves = r .moves - made; acks = r .acks }) ⌝ }
+{
+    let mut moves = made;
     let mut acks = 0u8;
     let mut sent = fifos::sent::none();
     while shakes::can_handshake(m, c) {
@@ -67,4 +91,28 @@ pub fn settled_by(m: &mut [u8; 196], c: Conditions) -> Told
         moves: moves,
         acks: acks,
     }
+}
+
+// Settling of an event: without a path nothing is possible.
+pub fn settle(m: &mut [u8; 196]) -> Told
+    requires { ⌜ IsImage (now m) ⌝ }
+    ensures { λ r. ⌜ Settles (now (m .entry)) (conditions (stateAt (now (m .entry)))) (now (m .exit)) r ⌝ }
+{
+    if !path(m) {
+        return Told {
+            sent: [0u8; 8],
+            moves: 0,
+            acks: 0,
+        };
+    }
+    let c = conditions_of(m);
+    let moves = moves::moved(m, c);
+    if !possible(m) {
+        return Told {
+            sent: [0u8; 8],
+            moves: moves,
+            acks: 0,
+        };
+    }
+    shaking(m, c, moves)
 }

@@ -50,17 +50,24 @@ pub fn can_handshake(m: &[u8; 196], c: Conditions) -> bool
     }
 }
 
-// The oldest byte of the SCSI FIFO goes to the bus.
+// The oldest byte of the SCSI FIFO goes to the bus; the places past the count hold 0 and move with the others.
 fn byte_sent(m: &mut [u8; 196]) -> u8
     requires { ⌜ IsImage (now m) ⌝ }
     requires { ⌜ 0 < length ((stateAt (now m)) .transfer .scsi) ⌝ }
     ensures { λ r. ⌜ (r ≡ getD ((stateAt (now (m .entry))) .transfer .scsi) 0 0) × (now (m .exit) ≡ imageOf (withTransfer (passed true [] ((stateAt (now (m .entry))) .transfer)) (stateAt (now (m .entry))))) ⌝ }
 {
-    let n = crate::copies::wide(m[23]);
+    let n = m[23];
     let b = m[28];
-    crate::copies::moved_down(m, 28, n, 1);
+    m[28] = m[29];
+    m[29] = m[30];
+    m[30] = m[31];
+    m[31] = m[32];
+    m[32] = m[33];
+    m[33] = m[34];
+    m[34] = m[35];
+    m[35] = 0;
     m[19] = b;
-    m[23] = (n - 1) as u8;
+    m[23] = n - 1;
     b
 }
 

@@ -1,15 +1,43 @@
+use mathlib.Core.Path.{sym, _∙_}
+use denote.Ref.{now}
 use borrow.Author.Needs.{needs}
-use mathlib.Core.Path.{_≡_, subst}
-use mathlib.Core.List.{List}
-use Rattle.rules.specs.declared.chip.Conditions.{Conditions}
-use Rattle.settled.specs.Settles.{Settles}
+use borrow.Author.Tests.{not-true}
+use Rattle.rules.specs.Numbers.{padded}
+use Rattle.image.specs.Image.{stateAt}
+use Rattle.settled.proofs.Exits.{none-settles, begun, few, moves-settle, shakes-settle}
 use Rattle.settled.proofs.settle.Statement.{statement}
 use Rattle.settled.proofs.settle.Tie as tie
 
 returns : tie.Need-returns
+unfolding padded stateAt
 returns c =
-    let look = c .before .before in
-    subst (λ (k : Conditions). Settles (look .before .before .args .m .now) k (c .settled-by .last .0) (c .settled-by .result)) (look .conditions-of .ensures) (c .settled-by .ensures)
+    let a = c .before .before .before in
+    none-settles (now (a .args .m)) (a .pre) (sym (c .before .path .ensures) ∙ not-true (c .before .path .result) (c .if1 .taken))
+
+returns-2 : tie.Need-returns-2
+unfolding padded
+returns-2 c =
+    let w = c .before .before .before in
+    let k = w .before .before in
+    let a = k .before .before .before .before .before in
+    moves-settle (now (a .args .m)) (a .pre) (k .conditions-of .result) (k .conditions-of .ensures) (w .moved .last .0) (w .moved .result) (w .moved .ensures) (sym (c .before .possible .ensures) ∙ not-true (c .before .possible .result) (c .if2 .taken))
+
+shaking-requires : tie.Need-shaking-requires
+shaking-requires c κs =
+    let w = c .before .before .before .before in
+    let k = w .before .before in
+    let a = k .before .before .before .before .before in
+    let g = begun (now (a .args .m)) (a .pre) (k .conditions-of .result) (k .conditions-of .ensures) (w .moved .last .0) (w .moved .result) (w .moved .ensures) in
+    (g .between .image, (g .still, few (now (a .args .m)) (a .pre) (k .conditions-of .result) (k .conditions-of .ensures) (w .moved .last .0) (w .moved .result) (w .moved .ensures)))
+
+returns-3 : tie.Need-returns-3
+returns-3 c =
+    let w = c .before .before .before .before .before in
+    let k = w .before .before in
+    let a = k .before .before .before .before .before in
+    shakes-settle (now (a .args .m)) (a .pre) (k .conditions-of .result) (k .conditions-of .ensures) (w .moved .last .0) (w .moved .result) (w .moved .ensures) (c .shaking .last .0) (c .shaking .result) (c .shaking .ensures .0) (c .shaking .ensures .1)
 
 pub settle-spec : {M : Type 1} → statement M
-settle-spec = tie.close (tie.spec (λ c κs. search needs) (λ c κs. search needs) returns)
+settle-spec =
+    tie.close
+    (tie.spec (λ c κs. search needs) returns (λ c κs. search needs) (λ c κs. search needs) (λ c κs. search needs) returns-2 shaking-requires returns-3)
