@@ -1,2 +1,3 @@
 pub mod EightBits
+pub mod Phases
 pub mod ReadBack

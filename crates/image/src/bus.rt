@@ -51,24 +51,33 @@ pub fn connected(m: &[u8; 196]) -> bool
 pub fn matched(m: &[u8; 196]) -> bool
     ensures { λ b. ⌜ b ≡ matched (registersAt (now (m .entry))) (linesAt (now (m .entry))) ⌝ }
 {
-    connected(m)
-        & (((m[16] >> 7) % 2 == 1) == ((m[3] >> 7) % 2 == 1))
-        & (((m[16] >> 6) % 2 == 1) == ((m[3] >> 6) % 2 == 1))
-        & (((m[16] >> 5) % 2 == 1) == ((m[3] >> 5) % 2 == 1))
+    if (m[16] >> 5) % 8 == (m[3] >> 5) % 8 {
+        connected(m)
+    } else {
+        false
+    }
 }
 
 // Connected and not matched.
 pub fn mismatched(m: &[u8; 196]) -> bool
     ensures { λ b. ⌜ b ≡ mismatched (registersAt (now (m .entry))) (linesAt (now (m .entry))) ⌝ }
 {
-    connected(m) & !matched(m)
+    if (m[16] >> 5) % 8 == (m[3] >> 5) % 8 {
+        false
+    } else {
+        connected(m)
+    }
 }
 
 // "Path: Normal, and WRITE differs from IOEXP (343h bit 6)."
 pub fn path(m: &[u8; 196]) -> bool
     ensures { λ b. ⌜ b ≡ path (registersAt (now (m .entry))) ⌝ }
 {
-    normal(m) & !(((m[9] >> 3) % 2 == 1) == ((m[3] >> 6) % 2 == 1))
+    if normal(m) {
+        !(((m[9] >> 3) % 2 == 1) == ((m[3] >> 6) % 2 == 1))
+    } else {
+        false
+    }
 }
 
 // "Synchronous: SOFS not 0, CD and MSG not seen"
@@ -104,9 +113,14 @@ pub fn ack_seen(m: &[u8; 196]) -> bool
 pub fn driving(m: &[u8; 196]) -> bool
     ensures { λ b. ⌜ b ≡ driving (registersAt (now (m .entry))) (linesAt (now (m .entry))) (transferAt (now (m .entry))) ⌝ }
 {
-    connected(m)
-        & !((m[16] >> 6) % 2 == 1)
-        & (manual(m) | automatic(m) | (normal(m) & (m[18] == 1)))
+    if (m[16] >> 6) % 2 == 1 {
+        return false;
+    }
+    if connected(m) {
+        manual(m) | automatic(m) | (normal(m) & (m[18] == 1))
+    } else {
+        false
+    }
 }
 
 // "Undriven data and parity are 0."

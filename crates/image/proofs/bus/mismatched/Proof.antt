@@ -1,8 +1,20 @@
 use borrow.Author.Needs.{needs}
-use Rattle.rules.specs.Seen.{mismatched}
+use borrow.Author.Tests.{eq-eqb, ne-eqb}
+use Rattle.image.proofs.Phases.{mismatched-by}
 use Rattle.image.proofs.bus.mismatched.Statement.{statement}
 use Rattle.image.proofs.bus.mismatched.Tie as tie
 
+returns : tie.Need-returns
+returns c =
+    let m = c .before .before .before .args .m .now in
+    rw (mismatched-by m, eq-eqb _ _ (c .if1 .taken))
+
+returns-2 : tie.Need-returns-2
+returns-2 c =
+    let m = c .before .before .before .before .args .m .now in
+    rw (mismatched-by m, ne-eqb _ _ (c .before .if1 .left)) (c .connected .ensures)
+
 pub mismatched-spec : {M : Type 1} → statement M
-unfolding mismatched
-mismatched-spec = tie.close (tie.spec (λ c κs. search needs) (λ c κs. search needs) (λ c. rw (c .matched .ensures, c .before .connected .ensures)))
+mismatched-spec =
+    tie.close
+    (tie.spec (λ c. search needs) (λ c. search needs) (λ c κs. search needs) returns returns-2)
