@@ -130,17 +130,17 @@ fn latches_of_bytes(
 }
 
 // The latches after D: before0 and before1 are 350h and 351h before the event, status the status byte after A, raised what
-// it rose to. None is set where no interrupt is enabled, or where nothing rose.
+// it rose to. None is set where nothing rose, or where no interrupt is enabled.
 pub fn latched_in(m: &mut [u8; 196], before0: u8, before1: u8, status: u8, raised: u8)
     requires { ⌜ IsImage (now m) ⌝ }
     ensures { λ _. ⌜ now (m .exit) ≡ imageOf (withLatches (latchesFrom (simode0Of before0) (simode1Of before1) ((stateAt (now (m .entry))) .registers .simode0) ((stateAt (now (m .entry))) .registers .simode1) (statusOf status) (statusOf raised) ((stateAt (now (m .entry))) .latches)) (stateAt (now (m .entry)))) ⌝ }
 {
     let enables0 = m[7];
     let enables1 = m[8];
-    if !any_enable(enables0, enables1) {
+    if (enables0 == before0) & (enables1 == before1) & (status == raised) {
         return;
     }
-    if (enables0 == before0) & (enables1 == before1) & (status == raised) {
+    if !any_enable(enables0, enables1) {
         return;
     }
     let k = latches_of_bytes(before0, before1, enables0, enables1, status, raised, m[13]);

@@ -121,14 +121,26 @@ pub fn fallen_in(m: &mut [u8; 196], acks: u8)
 fn fifo_conflict(m: &[u8; 196]) -> bool
     ensures { λ b. ⌜ b ≡ fifoConflict (registersAt (now (m .entry))) ⌝ }
 {
-    normal(m) & ((m[1] >> 7) % 2 == 1) & !path(m)
+    if normal(m) {
+        if (m[1] >> 7) % 2 == 1 {
+            !path(m)
+        } else {
+            false
+        }
+    } else {
+        false
+    }
 }
 
 // "Automatic mode, matched, REQ seen, automatic ACK off sets SPIORDY."
 fn pio_ready(m: &[u8; 196]) -> bool
     ensures { λ b. ⌜ b ≡ pioReady (registersAt (now (m .entry))) (linesAt (now (m .entry))) (transferAt (now (m .entry))) ⌝ }
 {
-    automatic(m) & matched(m) & ((m[16] >> 1) % 2 == 1) & !(m[18] == 1)
+    if automatic(m) {
+        matched(m) & ((m[16] >> 1) % 2 == 1) & !(m[18] == 1)
+    } else {
+        false
+    }
 }
 
 // What each status rose to in the event.

@@ -1,28 +1,37 @@
 // The answer, read off an image.
 ghost use mathlib.Core.Path.{_≡_};
+ghost use mathlib.Core.Bool.{_&&_, cond};
+ghost use Rattle.rules.specs.Numbers.{ones, even};
+ghost use Rattle.rules.specs.Seen.{normal};
 ghost use Rattle.rules.specs.Answers.{answerBytes, controlDriven};
-ghost use Rattle.rules.specs.Seen.{parityDriven};
-ghost use Rattle.image.specs.Image.{IsImage, stateAt, registersAt, linesAt, transferAt};
+ghost use Rattle.image.specs.Image.{IsImage, stateAt, registersAt, transferAt};
 ghost use Rattle.given.specs.Answering.{answerWith};
 use crate::interrupts::irq;
 use image::bus::ack_driven;
-use image::bus::data_driven;
 use image::bus::driving;
+use image::bus::normal;
 use laws::byte_of;
 use parity::parity_for;
 use rules::codes::Code;
 use rules::records::Answer;
 use wire::answer_bytes;
 
-// "Parity driven makes the ones odd.": they are counted only where data is driven.
-pub fn parity_driven(m: &[u8; 196]) -> bool
-    ensures { λ b. ⌜ b ≡ parityDriven (registersAt (now (m .entry))) (linesAt (now (m .entry))) (transferAt (now (m .entry))) ⌝ }
+// "Undriven data and parity are 0.": whether data is driven is judged once, by the caller.
+fn byte_driven(m: &[u8; 196], driving: bool) -> u8
+    ensures { λ b. ⌜ b ≡ cond driving (cond (normal (registersAt (now (m .entry)))) ((transferAt (now (m .entry))) .last) ((registersAt (now (m .entry))) .scsidat)) 0 ⌝ }
 {
-    if driving(m) {
-        parity_for(data_driven(m))
+    if driving {
+        if normal(m) { m[19] } else { m[6] }
     } else {
-        false
+        0
     }
+}
+
+// "Parity driven makes the ones odd.": they are counted only where data is driven.
+fn parity_of(driving: bool, driven: u8) -> bool
+    ensures { λ b. ⌜ b ≡ driving && even (ones driven) ⌝ }
+{
+    if driving { parity_for(driven) } else { false }
 }
 
 // The control lines driven, in the order of 343h: CD, IO, MSG and REQ never are.
@@ -50,9 +59,9 @@ pub fn answer_of(
 {
     let irq = irq(m);
     let driving = driving(m);
-    let parity = parity_driven(m);
+    let driven = byte_driven(m, driving);
+    let parity = parity_of(driving, driven);
     let control = control_driven(m);
-    let driven = data_driven(m);
     let rst = (m[0] >> 0) % 2 == 1;
     let a = Answer {
         code: code,

@@ -1,38 +1,59 @@
 use borrow.Author.Needs.{needs}
-use mathlib.Core.Path.{ap, _∙_}
+use Prim.Native.Nat.{ℕ}
+use mathlib.Core.Path.{_≡_, ap, _∙_}
+use mathlib.Core.Bool.{Bool, _&&_, cond}
 use lib.ListN.{getD}
-use Rattle.rules.specs.Numbers.{bit}
+use Rattle.rules.specs.Numbers.{bit, ones, even}
+use Rattle.rules.specs.Seen.{normal, driving, dataDriven, parityDriven}
+use Rattle.rules.specs.State.{Transfer}
+use Rattle.rules.specs.declared.registers.Registers.{Registers}
+use Rattle.rules.specs.declared.records.Lines.{Lines}
 use Rattle.rules.specs.Answers.{answerBytes}
-use Rattle.image.specs.Image.{stateAt}
+use Rattle.image.specs.Image.{stateAt, registersAt, linesAt, transferAt}
 use Rattle.given.specs.Answering.{answerWith}
 use Rattle.given.proofs.Held.{at-scsi, at-host}
 use Rattle.given.proofs.answers.answer_of.Statement.{statement}
 use Rattle.given.proofs.answers.answer_of.Tie as tie
 
+-- by what was judged of driving
+data-by : (r : Registers) (l : Lines) (t : Transfer) {d : Bool} {b : ℕ} → d ≡ driving r l t → b ≡ cond d (cond (normal r) (t .last) (r .scsidat)) 0 → b ≡ dataDriven r l t
+unfolding dataDriven
+data-by r l t e f = rw (← e) f
+
+parity-by : (r : Registers) (l : Lines) (t : Transfer) {d p : Bool} {b : ℕ} → d ≡ driving r l t → b ≡ dataDriven r l t → p ≡ (d && even (ones b)) → p ≡ parityDriven r l t
+unfolding parityDriven
+parity-by r l t e f h = rw (← e, ← f) h
+
 -- field by field
 returns : tie.Need-returns
 unfolding answerWith stateAt
 returns c =
-    let s = c .before .before .before .before .before .before .before .before .before .before in
+    let control = c .before .before .before .before .before in
+    let parity = control .before in
+    let byte = parity .before in
+    let judged = byte .before in
+    let interrupt = judged .before in
+    let s = interrupt .before in
     let m = s .args .m .now in
-    let t = s .pre in
+    let drives = judged .driving .ensures in
+    let driven = data-by (registersAt m) (linesAt m) (transferAt m) drives (byte .byte-driven .ensures) in
     c .answer-bytes .ensures
     ∙ ap answerBytes
     (λ i.
     record {
       code = s .args .code;
-      irq = c .before .before .before .before .before .before .before .before .before .irq .ensures i;
+      irq = interrupt .irq .ensures i;
       acks = s .args .acks;
       moves = s .args .moves;
-      driving = c .before .before .before .before .before .before .before .before .driving .ensures i;
+      driving = drives i;
       rst = bit (getD m 0 0) 0;
-      parity = c .before .before .before .before .before .before .before .parity-driven .ensures i;
+      parity = parity-by (registersAt m) (linesAt m) (transferAt m) drives driven (parity .parity-of .ensures) i;
       value = s .args .value;
-      control = c .before .before .before .before .before .before .control-driven .ensures i;
-      driven = c .before .before .before .before .before .data-driven .ensures i;
+      control = control .control-driven .ensures i;
+      driven = driven i;
       offset = getD m 17 0;
-      scsi = at-scsi m t i;
-      host = at-host m t i;
+      scsi = at-scsi m (s .pre) i;
+      host = at-host m (s .pre) i;
       sent = s .args .sent;
     })
 
