@@ -2,4 +2,6 @@ pub mod Coding
 pub mod Endings
 pub mod Going
 pub mod PartsOfA
+pub mod ReadLaws
+pub mod ReadParts
 pub mod ThroughA
