@@ -17,12 +17,25 @@ status-kept-in-requires : tie.Need-status-kept-in-requires
 unfolding readAt table
 status-kept-in-requires c κs =
     let x = c .before in
-    let o = x .before .before .before .before .before .before .before .before in
-    c .foo
+    let k = x .before .before .before .before in
+    let o = k .before .before .before .before in
+    let m = o .args .m .now in
+    let acked = acked-is m (Read 0x06) (latch-accessed m) (k .automatic-ack .ensures) in
+    unheld-image (o .pre) 0x06 (omega arith) (read-done (o .pre) 0x06 SCSIDAT refl refl)
+    (x .acknowledged-if .ensures (stateAt m) (placed-at m (o .pre)) (o .pre .packed) ∙ ap imageOf (latch-left (stateAt m) acked))
 
 returns : tie.Need-returns
 unfolding readAt table
-returns c = ?
+returns c =
+    let x = c .before .before .before in
+    let v = x .before .before in
+    let k = v .before .before in
+    let o = k .before .before .before .before in
+    let m = o .args .m .now in
+    let acked = acked-is m (Read 0x06) (latch-accessed m) (k .automatic-ack .ensures) in
+    read-acts (o .pre) 0x06 (omega arith) (read-done (o .pre) 0x06 SCSIDAT refl refl)
+    (x .acknowledged-if .ensures (stateAt m) (placed-at m (o .pre)) (o .pre .packed) ∙ ap imageOf (latch-left (stateAt m) acked))
+    (latch-accessed m) acked (c .before .status-kept-in .ensures) (v .data-seen .ensures ∙ at-bus m (o .pre) ∙ latch-value (stateAt m)) (c .done-with .ensures)
 
 pub latch-read-spec : {M : Type 1} → statement M
 latch-read-spec =
