@@ -49,10 +49,10 @@ pub fn port_read(m: &mut [u8; 196]) -> Acted
     if m[24] < 1 {
         return refused_as(Code::NoBytes, 0xFF);
     }
-    let value = m[68] as u16;
+    let value = m[68];
     host_popped(m, 1);
     status_kept_in(m, false, false);
-    done_with(value, 0)
+    done_with(value as u16, 0)
 }
 
 // "turns automatic ACK on, adds one to the counter"
