@@ -1,10 +1,8 @@
-use mathlib.Core.Path.{refl, ap, _∙_}
+use mathlib.Core.Path.{ap, _∙_}
 use borrow.Author.Needs.{needs}
-use Rattle.rules.specs.Map.{table, readAt, offsetOf}
-use Rattle.rules.specs.declared.map.Register.the-variants.{SCSIDAT, DMADATA, STACK, ID}
+use Rattle.rules.specs.Map.{offsetOf}
 use Rattle.image.specs.Image.{imageOf, stateAt}
-use Rattle.stores.proofs.Arms.{other}
-use Rattle.acted.proofs.ReadFound.{found-below, apart}
+use Rattle.acted.proofs.ReadFound.{found-below, not-latch, not-port, not-stack, not-identity}
 use Rattle.acted.proofs.ReadLaws.{read-done, read-acts}
 use Rattle.acted.proofs.ReadParts.{plain-left, plain-value, unaccessed, unacked}
 use Rattle.acted.proofs.reading.read_found.Statement.{statement}
@@ -23,17 +21,18 @@ returns-4 : tie.Need-returns-4
 returns-4 c = rw (c .before .before .enum-told4 .given .1) (c .identity-read .ensures)
 
 returns-5 : tie.Need-returns-5
-unfolding readAt table
 returns-5 c =
     let known = c .before .before in
-    let o = known .before in
-    let r = o .args .register in
-    let s = stateAt (o .args .m .now) in
-    let away = λ k here t. apart r k (o .pre .1) here (other _ r k (known .match .keys5) t) in
-    read-acts (o .pre .0) (offsetOf r) (found-below (offsetOf r) r (o .pre .1)) (read-done (o .pre .0) (offsetOf r) r (o .pre .1) (away DMADATA refl tt))
-    (o .pre .0 .packed ∙ ap imageOf (plain-left s (offsetOf r) (away SCSIDAT refl tt) (away DMADATA refl tt) (away STACK refl tt) (away ID refl tt)))
-    (unaccessed s (offsetOf r) (away SCSIDAT refl tt)) (unacked s (offsetOf r) (away SCSIDAT refl tt))
-    (c .plain-read .ensures .0) (plain-value s (offsetOf r) r (o .pre .1)) (c .plain-read .ensures .1)
+    let a = known .before in
+    let r = a .args .register in
+    let s = stateAt (a .args .m .now) in
+    let g = a .pre .0 in
+    let found = a .pre .1 in
+    let k = known .match .keys5 in
+    let o = offsetOf r in
+    read-acts g o (found-below o r found) (read-done g o r found (not-port r found k))
+    (g .packed ∙ ap imageOf (plain-left s o (not-latch r found k) (not-port r found k) (not-stack r found k) (not-identity r found k)))
+    (unaccessed s o (not-latch r found k)) (unacked s o (not-latch r found k)) (c .plain-read .ensures .0) (plain-value s o r found) (c .plain-read .ensures .1)
 
 pub read-found-spec : {M : Type 1} → statement M
 read-found-spec =
