@@ -30,7 +30,7 @@ use Rattle.acted.proofs.ThroughA.{a-fits, a-bytes}
 
 module _ {m : List ℕ} (g : IsImage m) (o : ℕ) where
   -- by what stands there and, at the port, by its tests
-  pub read-code : firstOf (isMissing (readAt o)) false (eqb o 0x16 && shutTo ((stateAt m) .registers .dmacntrl0) false true) false (eqb o 0x16 && ltb (getD m 24 0) 1) ≡ accessCode (stateAt m) (Read o)
+  read-code : firstOf (isMissing (readAt o)) false (eqb o 0x16 && shutTo ((stateAt m) .registers .dmacntrl0) false true) false (eqb o 0x16 && ltb (getD m 24 0) 1) ≡ accessCode (stateAt m) (Read o)
   read-code = read ((stateAt m) .registers .dmacntrl0) (getD m 24 0) (held-fits g) o ∙ code-at-is g (Read o)
 
   pub read-done : (r : Register) → readAt o ≡ Present r → eqb o 0x16 ≡ false → accessCode (stateAt m) (Read o) ≡ Done

@@ -1,7 +1,7 @@
 -- What a read of each register does beside the hold, and gives: the parts of A that are left out change nothing.
 use Prim.Native.Nat.{ℕ}
-use mathlib.Core.Path.{_≡_, refl, ap, sym, _∙_}
-use mathlib.Core.Bool.{Bool, true, false, _&&_}
+use mathlib.Core.Path.{_≡_, refl, ap}
+use mathlib.Core.Bool.{Bool, false, _&&_}
 use mathlib.Core.List.{List}
 use lib.Dec.{eqb}
 use lib.ListN.{drop, getD}
@@ -10,7 +10,7 @@ use Rattle.rules.specs.State.{State}
 use Rattle.rules.specs.Map.{table, readAt}
 use Rattle.rules.specs.Events.{writes, reads, linesAfter, asked, portWrite}
 use Rattle.rules.specs.Stack.{stackRead, stackByte}
-use Rattle.rules.specs.Reads.{scsibus, idBytes, readOf, readMapped, valueRead}
+use Rattle.rules.specs.Reads.{scsibus, idBytes, readOf, valueRead}
 use Rattle.rules.specs.StepA.{clears, clearsLatch, clrstcnt, clrch, rstfifo, latchAccess, automaticAck, registersA, hostA, counterA, transferA, latchesA, stackA, identityA, afterA}
 use Rattle.rules.specs.declared.map.Register.{Register}
 use Rattle.rules.specs.declared.map.Mapped.the-variants.{Present}

@@ -29,7 +29,7 @@ use rules::map::Register;
 use stores::stacking::popped;
 
 // "data port shut: ENDMA 0, DMA/PIO 1, width or direction wrong", for a read of a byte
-pub fn shut_to_byte(m: &[u8; 196]) -> bool
+fn shut_to_byte(m: &[u8; 196]) -> bool
     ensures { λ b. ⌜ b ≡ shutTo ((registersAt (now (m .entry))) .dmacntrl0) false true ⌝ }
 {
     !((m[9] >> 7) % 2 == 1)
@@ -39,7 +39,7 @@ pub fn shut_to_byte(m: &[u8; 196]) -> bool
 }
 
 // 356h gives the oldest byte of the host FIFO and takes it off.
-pub fn port_read(m: &mut [u8; 196]) -> Acted
+fn port_read(m: &mut [u8; 196]) -> Acted
     requires { ⌜ IsImage (now m) ⌝ }
     ensures { λ r. ⌜ Acts (stateAt (now (m .entry))) (Read 0x16) (now (m .exit)) r ⌝ }
 {
@@ -56,7 +56,7 @@ pub fn port_read(m: &mut [u8; 196]) -> Acted
 }
 
 // "turns automatic ACK on, adds one to the counter"
-pub fn acknowledged_if(m: &mut [u8; 196], acked: bool)
+fn acknowledged_if(m: &mut [u8; 196], acked: bool)
     ensures { λ _. ⌜ ((s : State) → Placed s → now (m .entry) ≡ imageOf s → now (m .exit) ≡ imageOf (withTransfer (transferA acked (s .transfer) (Read 0x06)) s)) ⌝ }
 {
     if acked {
@@ -65,7 +65,7 @@ pub fn acknowledged_if(m: &mut [u8; 196], acked: bool)
 }
 
 // "An access to 346h (a write with IO not seen, a read with IO seen) with SPIORDY clears it"
-pub fn latch_read(m: &mut [u8; 196]) -> Acted
+fn latch_read(m: &mut [u8; 196]) -> Acted
     requires { ⌜ IsImage (now m) ⌝ }
     ensures { λ r. ⌜ Acts (stateAt (now (m .entry))) (Read 0x06) (now (m .exit)) r ⌝ }
 {
@@ -78,7 +78,7 @@ pub fn latch_read(m: &mut [u8; 196]) -> Acted
 }
 
 // "35Dh uses the place the pointer names, then the pointer goes up one"
-pub fn stack_read(m: &mut [u8; 196]) -> Acted
+fn stack_read(m: &mut [u8; 196]) -> Acted
     requires { ⌜ IsImage (now m) ⌝ }
     ensures { λ r. ⌜ Acts (stateAt (now (m .entry))) (Read 0x1D) (now (m .exit)) r ⌝ }
 {
@@ -89,7 +89,7 @@ pub fn stack_read(m: &mut [u8; 196]) -> Acted
 }
 
 // "35Fh gives the 32 ID bytes in turn and starts again"
-pub fn identity_read(m: &mut [u8; 196]) -> Acted
+fn identity_read(m: &mut [u8; 196]) -> Acted
     requires { ⌜ IsImage (now m) ⌝ }
     ensures { λ r. ⌜ Acts (stateAt (now (m .entry))) (Read 0x1F) (now (m .exit)) r ⌝ }
 {
@@ -99,8 +99,8 @@ pub fn identity_read(m: &mut [u8; 196]) -> Acted
     done_with(value, 0)
 }
 
-// Any other register only gives its value.
-pub fn plain_read(m: &mut [u8; 196], register: Register) -> Acted
+// The value, and "While ENSPCHK is 0, SCSIPERR is held at 0".
+fn plain_read(m: &mut [u8; 196], register: Register) -> Acted
     requires { ⌜ IsImage (now m) ⌝ }
     ensures { λ _. ⌜ now (m .exit) ≡ imageOf (withStatus (statusA false false ((stateAt (now (m .entry))) .registers .sxfrctl1 .enspchk) ((stateAt (now (m .entry))) .status) WordRead) (stateAt (now (m .entry)))) ⌝ }
     ensures { λ r. ⌜ r ≡ doneWith (readOf (stateAt (now (m .entry))) register) 0 ⌝ }
@@ -110,8 +110,8 @@ pub fn plain_read(m: &mut [u8; 196], register: Register) -> Acted
     done_with(value, 0)
 }
 
-// The registers that a read changes something of are four.
-pub fn read_found(m: &mut [u8; 196], register: Register) -> Acted
+// Four registers change at a read; any other only gives its value.
+fn read_found(m: &mut [u8; 196], register: Register) -> Acted
     requires { ⌜ IsImage (now m) ⌝ }
     requires { ⌜ readAt (offsetOf register) ≡ Present register ⌝ }
     ensures { λ r. ⌜ Acts (stateAt (now (m .entry))) (Read (offsetOf register)) (now (m .exit)) r ⌝ }
