@@ -4,4 +4,7 @@ pub mod Endings
 pub mod Going
 pub mod LineBits
 pub mod PartsOfA
+pub mod ReadFound
+pub mod ReadLaws
+pub mod ReadParts
 pub mod ThroughA
