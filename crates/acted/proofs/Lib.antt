@@ -1,6 +1,9 @@
 pub mod Coding
+pub mod Effects
 pub mod Endings
 pub mod Going
 pub mod PartsOfA
+pub mod PortCode
 pub mod Reached
 pub mod ThroughA
+pub mod Unwritable

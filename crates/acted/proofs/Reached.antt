@@ -1,13 +1,13 @@
 -- The states that a write goes through in A, each with its image.
-use Prim.Native.Nat.{ℕ}
-use mathlib.Core.Path.{_≡_, refl, ap, _∙_}
+use Prim.Native.Nat.{ℕ, _<_, _≤_}
+use mathlib.Core.Path.{_≡_, refl, ap, sym, subst, _∙_}
 use mathlib.Core.Bool.{Bool}
 use mathlib.Core.List.{List}
 use Rattle.rules.specs.State.{State}
 use Rattle.rules.specs.Events.{ticksOf}
 use Rattle.rules.specs.Codes.{accessCode}
 use Rattle.rules.specs.Reads.{valueRead}
-use Rattle.rules.specs.StepA.{automaticAck, registersA, transferA, statusA, latchesA, stackA, afterA}
+use Rattle.rules.specs.StepA.{registersA, statusA, latchesA, afterA}
 use Rattle.rules.specs.Ranges.{InRange, InBytes, EventFits}
 use Rattle.rules.specs.declared.registers.Registers.{Registers}
 use Rattle.rules.specs.declared.codes.Code.the-variants.{Done}
@@ -28,7 +28,7 @@ pub record Reached (m : List ℕ) (t : State) : Type 0 where
 pub start : {m : List ℕ} → IsImage m → Reached m (stateAt m)
 start g = record { image = g .packed; range = g .range; bytes = g .bytes }
 
--- the parts that leave every range
+-- the parts that have no range
 module _ {m : List ℕ} {t : State} (r : Reached m t) where
   pub there : IsImage m
   there = image-is t (r .image) (r .range) (r .bytes)
@@ -49,45 +49,49 @@ module _ {m : List ℕ} {t : State} (r : Reached m t) where
         bytes = record { lines = r .bytes .lines; registers = r .bytes .registers; transfer = r .bytes .transfer; stack = r .bytes .stack };
       }
 
--- the parts whose range is that after A, of a write that is done; g is the image that it finds
-module _ {b : List ℕ} (g : IsImage b) (o v : ℕ) (f : EventFits (Write o v)) (d : accessCode (stateAt b) (Write o v) ≡ Done) where
-  abbrev s : State
-  s = stateAt b
+-- a write that is done, and the state that it leaves
+pub record Leaves (b : List ℕ) (o v : ℕ) (w : State) : Type 0 where
+  pub image : IsImage b
+  pub fits : EventFits (Write o v)
+  pub done : accessCode (stateAt b) (Write o v) ≡ Done
+  pub after : w ≡ afterA (stateAt b) (Write o v)
 
-  abbrev e : Event
-  e = Write o v
+module _ {b : List ℕ} {o v : ℕ} {w : State} (l : Leaves b o v w) where
+  range-left : InRange w
+  range-left = subst InRange (sym (l .after)) (a-fits (l .image) (Write o v) (l .fits) (l .done))
 
+  bytes-left : InBytes w
+  bytes-left = subst InBytes (sym (l .after)) (a-bytes (l .image) (Write o v) (l .fits) (l .done))
+
+  -- a part of what it leaves, in place
   module _ {m n : List ℕ} {t : State} (r : Reached m t) where
-    pub stored : t .registers ≡ s .registers → n ≡ imageOf (withRegisters (registersA ((stateAt m) .registers) e) (stateAt m)) → Reached n (withRegisters (registersA (s .registers) e) t)
-    unfolding afterA
+    pub stored : registersA (t .registers) (Write o v) ≡ w .registers → n ≡ imageOf (withRegisters (registersA ((stateAt m) .registers) (Write o v)) (stateAt m)) → Reached n (withRegisters (w .registers) t)
     stored q h =
         record {
           image =
-              onward (λ (x : State). withRegisters (registersA (x .registers) e) x) t (r .image) (r .range) (r .bytes) h
-              ∙ ap (λ (x : Registers). imageOf (withRegisters (registersA x e) t)) q;
-          range = record { registers = a-fits g e f d .registers; transfer = r .range .transfer; stack = r .range .stack; quiet = r .range .quiet; identity = r .range .identity };
-          bytes = record { lines = r .bytes .lines; registers = a-bytes g e f d .registers; transfer = r .bytes .transfer; stack = r .bytes .stack };
+              onward (λ (x : State). withRegisters (registersA (x .registers) (Write o v)) x) t (r .image) (r .range) (r .bytes) h
+              ∙ ap (λ (x : Registers). imageOf (withRegisters x t)) q;
+          range = record { registers = range-left .registers; transfer = r .range .transfer; stack = r .range .stack; quiet = r .range .quiet; identity = r .range .identity };
+          bytes = record { lines = r .bytes .lines; registers = bytes-left .registers; transfer = r .bytes .transfer; stack = r .bytes .stack };
         }
 
-    pub carried : n ≡ imageOf (withTransfer (transferA (automaticAck s e) (s .transfer) e) t) → Reached n (withTransfer (transferA (automaticAck s e) (s .transfer) e) t)
-    unfolding afterA
+    pub carried : n ≡ imageOf (withTransfer (w .transfer) t) → Reached n (withTransfer (w .transfer) t)
     carried h =
         record {
           image = h;
-          range = record { registers = r .range .registers; transfer = a-fits g e f d .transfer; stack = r .range .stack; quiet = r .range .quiet; identity = r .range .identity };
-          bytes = record { lines = r .bytes .lines; registers = r .bytes .registers; transfer = a-bytes g e f d .transfer; stack = r .bytes .stack };
+          range = record { registers = r .range .registers; transfer = range-left .transfer; stack = r .range .stack; quiet = r .range .quiet; identity = r .range .identity };
+          bytes = record { lines = r .bytes .lines; registers = r .bytes .registers; transfer = bytes-left .transfer; stack = r .bytes .stack };
         }
 
-    pub stacked : n ≡ imageOf (withStack (stackA (s .registers .dmacntrl1 .enstk32) (s .stack) e) t) → Reached n (withStack (stackA (s .registers .dmacntrl1 .enstk32) (s .stack) e) t)
-    unfolding afterA
+    pub stacked : n ≡ imageOf (withStack (w .stack) t) → Reached n (withStack (w .stack) t)
     stacked h =
         record {
           image = h;
-          range = record { registers = r .range .registers; transfer = r .range .transfer; stack = a-fits g e f d .stack; quiet = r .range .quiet; identity = r .range .identity };
-          bytes = record { lines = r .bytes .lines; registers = r .bytes .registers; transfer = r .bytes .transfer; stack = a-bytes g e f d .stack };
+          range = record { registers = r .range .registers; transfer = r .range .transfer; stack = range-left .stack; quiet = r .range .quiet; identity = r .range .identity };
+          bytes = record { lines = r .bytes .lines; registers = r .bytes .registers; transfer = r .bytes .transfer; stack = bytes-left .stack };
         }
 
-  -- where the state after A is reached
-  pub acts : {n : List ℕ} {t : State} {a : Acted} → Reached n t → t ≡ afterA s e → a ≡ doneWith 0 0 → Acts s e n a
+  -- all of what it leaves
+  pub acts : {n : List ℕ} {a : Acted} → Reached n w → a ≡ doneWith 0 0 → Acts (stateAt b) (Write o v) n a
   unfolding valueRead ticksOf
-  acts r q h = acts-done s e d (r .image ∙ ap imageOf q) refl refl h
+  acts r h = acts-done (stateAt b) (Write o v) (l .done) (r .image ∙ ap imageOf (l .after)) refl refl h

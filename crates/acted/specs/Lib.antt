@@ -1,2 +1,2 @@
 pub mod Acting
-pub mod Plain
+pub mod Writes

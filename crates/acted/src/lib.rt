@@ -4,7 +4,9 @@ ghost use Rattle.acted.specs.Acting.{refusedAs, doneWith};
 use rules::codes::Code;
 
 pub mod acting;
+pub mod clearing;
 pub mod coded;
+pub mod porting;
 pub mod reading;
 pub mod writing;
 
