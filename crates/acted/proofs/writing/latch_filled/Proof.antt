@@ -13,7 +13,7 @@ stored-requires : tie.Need-stored-requires
 unfolding table writtenAt
 stored-requires c κs =
     let x = c .before .before .before in
-    let a = x .before .before in
+    let a = x .before .before .before .before in
     let p = latch-accessed (a .args .m .now) (a .args .value) in
     let l = fills (a .pre) (a .fits .value .fits) p (acked-is (a .args .m .now) (Write 0x06 (a .args .value)) p (x .automatic-ack .ensures)) in
     (there (carried l (start (a .pre)) (c .before .ack-by .ensures)), refl)
@@ -22,7 +22,7 @@ status-kept-in-requires : tie.Need-status-kept-in-requires
 status-kept-in-requires c κs =
     let y = c .before .before .before in
     let x = y .before .before in
-    let a = x .before .before in
+    let a = x .before .before .before .before in
     let p = latch-accessed (a .args .m .now) (a .args .value) in
     let l = fills (a .pre) (a .fits .value .fits) p (acked-is (a .args .m .now) (Write 0x06 (a .args .value)) p (x .automatic-ack .ensures)) in
     there (stored l (carried l (start (a .pre)) (y .ack-by .ensures)) refl (c .before .stored .ensures))
@@ -32,7 +32,7 @@ returns c =
     let z = c .before .before .before in
     let y = z .before .before in
     let x = y .before .before in
-    let a = x .before .before in
+    let a = x .before .before .before .before in
     let p = latch-accessed (a .args .m .now) (a .args .value) in
     let l = fills (a .pre) (a .fits .value .fits) p (acked-is (a .args .m .now) (Write 0x06 (a .args .value)) p (x .automatic-ack .ensures)) in
     let i = stored l (carried l (start (a .pre)) (y .ack-by .ensures)) refl (z .stored .ensures) in

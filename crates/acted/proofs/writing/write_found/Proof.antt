@@ -16,29 +16,29 @@ returns-2 : tie.Need-returns-2
 returns-2 c = rw (c .before .before .enum-told2 .given .1) (c .transfer-control .ensures)
 
 -- SXFRCTL1
-plain-written2-requires : tie.Need-plain-written2-requires
-plain-written2-requires c κs = (c .before .before .before .pre .0, sxfrctl1)
+plain-written-requires-2 : tie.Need-plain-written-requires-2
+plain-written-requires-2 c κs = (c .before .before .before .pre .0, sxfrctl1)
 
 returns-3 : tie.Need-returns-3
 returns-3 c = rw (c .before .before .enum-told3 .given .1) (c .plain-written2 .ensures)
 
 -- SCSISIGO
-plain-written3-requires : tie.Need-plain-written3-requires
-plain-written3-requires c κs = (c .before .before .before .pre .0, scsisigo)
+plain-written-requires-3 : tie.Need-plain-written-requires-3
+plain-written-requires-3 c κs = (c .before .before .before .pre .0, scsisigo)
 
 returns-4 : tie.Need-returns-4
 returns-4 c = rw (c .before .before .enum-told4 .given .1) (c .plain-written3 .ensures)
 
 -- SCSIRATE
-plain-written4-requires : tie.Need-plain-written4-requires
-plain-written4-requires c κs = (c .before .before .before .pre .0, scsirate)
+plain-written-requires-4 : tie.Need-plain-written-requires-4
+plain-written-requires-4 c κs = (c .before .before .before .pre .0, scsirate)
 
 returns-5 : tie.Need-returns-5
 returns-5 c = rw (c .before .before .enum-told5 .given .1) (c .plain-written4 .ensures)
 
 -- SCSIID
-plain-written5-requires : tie.Need-plain-written5-requires
-plain-written5-requires c κs = (c .before .before .before .pre .0, scsiid)
+plain-written-requires-5 : tie.Need-plain-written-requires-5
+plain-written-requires-5 c κs = (c .before .before .before .pre .0, scsiid)
 
 returns-6 : tie.Need-returns-6
 returns-6 c = rw (c .before .before .enum-told6 .given .1) (c .plain-written5 .ensures)
@@ -76,15 +76,15 @@ returns-14 : tie.Need-returns-14
 returns-14 c = rw (c .before .before .enum-told14 .given .1) (c .errors-cleared .ensures)
 
 -- SIMODE0
-plain-written6-requires : tie.Need-plain-written6-requires
-plain-written6-requires c κs = (c .before .before .before .pre .0, simode0)
+plain-written-requires-6 : tie.Need-plain-written-requires-6
+plain-written-requires-6 c κs = (c .before .before .before .pre .0, simode0)
 
 returns-15 : tie.Need-returns-15
 returns-15 c = rw (c .before .before .enum-told15 .given .1) (c .plain-written6 .ensures)
 
 -- SIMODE1
-plain-written7-requires : tie.Need-plain-written7-requires
-plain-written7-requires c κs = (c .before .before .before .pre .0, simode1)
+plain-written-requires-7 : tie.Need-plain-written-requires-7
+plain-written-requires-7 c κs = (c .before .before .before .pre .0, simode1)
 
 returns-16 : tie.Need-returns-16
 returns-16 c = rw (c .before .before .enum-told16 .given .1) (c .plain-written7 .ensures)
@@ -102,8 +102,8 @@ returns-19 : tie.Need-returns-19
 returns-19 c = rw (c .before .before .enum-told19 .given .1) (c .port-written .ensures)
 
 -- BRSTCNTRL
-plain-written8-requires : tie.Need-plain-written8-requires
-plain-written8-requires c κs = (c .before .before .before .pre .0, brstcntrl)
+plain-written-requires-8 : tie.Need-plain-written-requires-8
+plain-written-requires-8 c κs = (c .before .before .before .pre .0, brstcntrl)
 
 returns-20 : tie.Need-returns-20
 returns-20 c = rw (c .before .before .enum-told20 .given .1) (c .plain-written8 .ensures)
@@ -125,10 +125,10 @@ write-found-spec =
     (tie.spec
     (λ c. search needs) plain-written-requires
     (λ c. search needs) (λ c κs. search needs)
-    (λ c. search needs) plain-written2-requires
-    (λ c. search needs) plain-written3-requires
-    (λ c. search needs) plain-written4-requires
-    (λ c. search needs) plain-written5-requires
+    (λ c. search needs) plain-written-requires-2
+    (λ c. search needs) plain-written-requires-3
+    (λ c. search needs) plain-written-requires-4
+    (λ c. search needs) plain-written-requires-5
     (λ c. search needs) (λ c κs. search needs)
     (λ c. search needs) (λ c κs. search needs)
     (λ c. search needs) (λ c κs. search needs)
@@ -137,12 +137,12 @@ write-found-spec =
     (λ c. search needs) (λ c κs. search needs)
     (λ c. search needs) (λ c κs. search needs)
     (λ c. search needs) (λ c κs. search needs)
-    (λ c. search needs) plain-written6-requires
-    (λ c. search needs) plain-written7-requires
+    (λ c. search needs) plain-written-requires-6
+    (λ c. search needs) plain-written-requires-7
     (λ c. search needs) (λ c κs. search needs)
     (λ c. search needs) (λ c κs. search needs)
     (λ c. search needs) (λ c κs. search needs)
-    (λ c. search needs) plain-written8-requires
+    (λ c. search needs) plain-written-requires-8
     (λ c. search needs) (λ c κs. search needs)
     (λ c. search needs) (λ c κs. search needs)
     (λ c κs. search needs)
