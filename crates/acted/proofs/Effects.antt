@@ -1,36 +1,28 @@
 -- What a write to each register does, by computing.
-use Prim.Native.Nat.{ℕ, _+_, _<_, _≤_}
-use mathlib.Core.Path.{_≡_, refl, sym, _∙_}
-use mathlib.Core.Bool.{Bool, false, not, _&&_, _||_, or-false}
-use mathlib.Core.List.{List}
+use Prim.Native.Nat.{ℕ, _<_}
+use mathlib.Core.Path.{_≡_, refl, _∙_}
+use mathlib.Core.Bool.{Bool, false, not, _&&_, or-false}
+use mathlib.Core.List.{List, [], _∷_, _++_}
 use native.Mathlib.Omega.{arith}
-use lib.Dec.{eqb, ltb}
-use lib.ListN.{length, getD}
+use lib.ListN.{getD}
 use Rattle.rules.specs.Numbers.{bit}
 use Rattle.rules.specs.State.{State}
-use Rattle.rules.specs.Map.{writtenAt, isMissing}
 use Rattle.rules.specs.Counter.{counterWith}
 use Rattle.rules.specs.Stack.{stackWritten}
 use Rattle.rules.specs.Events.{writes, reads}
-use Rattle.rules.specs.Codes.{accessCode}
 use Rattle.rules.specs.StepA.{latchAccess, automaticAck, statusA, latchesA, stackA}
 use Rattle.rules.specs.declared.map.Register.the-variants.{SCSISEQ, SXFRCTL1, SCSISIGO, SCSIRATE, SCSIID, SIMODE0, SIMODE1, BRSTCNTRL}
 use Rattle.rules.specs.declared.records.Event.the-variants.{Write, WordRead}
-use Rattle.checks.specs.CodeBy.{shutTo, firstOf}
-use Rattle.checks.proofs.Accesses as accesses
-use Rattle.checks.proofs.ByState.{access-code-by}
+use Rattle.checks.specs.CodeBy.{shutTo}
 use Rattle.image.specs.Image.{stateAt, IsImage, withStatus, withLatches, withStack}
-use Rattle.ports.specs.Ready.{withCounter}
+use Rattle.ports.specs.Ready.{withHost, withCounter}
 use Rattle.acted.specs.Writes.{Leaving, Does, Plain, storing, kept, channelCleared, counterCleared, hostCleared, ackCounted}
 use Rattle.acted.proofs.Reached.{Leaves}
+use Rattle.acted.proofs.WriteCodes.{write-code, Test, test-done, port-done}
 
 pub leaves : {o : ℕ} {w : State → ℕ → State} → Does o w → {b : List ℕ} → IsImage b → {v : ℕ} → v < 256 → Leaves b o v (w (stateAt b) v)
 unfolding Leaving
 leaves d {b = b} g {v = v} f = record { image = g; fits = (d .fits, f); done = d .done (stateAt b) v (g .range .transfer .host); after = d .after (stateAt b) v }
-
--- the code of a write by its offset
-pub write-code : (s : State) (o v : ℕ) → length (s .transfer .host) ≤ 128 → accessCode s (Write o v) ≡ firstOf (isMissing (writtenAt o)) ((eqb o 0x0E || eqb o 0x1E) && not (eqb v 0)) (eqb o 0x16 && shutTo (s .registers .dmacntrl0) false false) (eqb o 0x16 && ltb 128 (length (s .transfer .host) + 1)) false
-write-code s o v h = access-code-by s (Write o v) ∙ sym (accesses.written (s .registers .dmacntrl0) (length (s .transfer .host)) h o v)
 
 -- the registers that are only stored
 pub scsiseq : Plain SCSISEQ
@@ -69,6 +61,26 @@ brstcntrl = record { written = refl; does = record { fits = omega arith; done = 
 pub sxfrctl0 : Does 0x01 (λ (s : State) (v : ℕ). kept (storing 0x01 (counterCleared (channelCleared s v) v) v))
 unfolding Leaving
 sxfrctl0 = record { fits = omega arith; done = λ s v. write-code s 0x01 v; after = λ s v. refl }
+
+-- "A write to 346h fills the latch.", and an Automatic ACK "adds one to the counter"
+abbrev pub latchFilled : Bool → Bool → State → ℕ → State
+latchFilled accessed acked s v =
+    let t = storing 0x06 (ackCounted acked s) v in
+    withStatus (statusA accessed acked (t .registers .sxfrctl1 .enspchk) (t .status) WordRead) t
+
+pub scsidat : Does 0x06 (λ (s : State) (v : ℕ). latchFilled (latchAccess s (Write 0x06 v)) (automaticAck s (Write 0x06 v)) s v)
+unfolding Leaving
+scsidat = record { fits = omega arith; done = λ s v. write-code s 0x06 v; after = λ s v. refl }
+
+-- the access to the latch as the code tests it
+pub latch-accessed : (m : List ℕ) (v : ℕ) → (not (bit (getD m 16 0) 6) && bit (getD m 12 0) 7) ≡ latchAccess (stateAt m) (Write 0x06 v)
+unfolding latchAccess writes reads stateAt
+latch-accessed m v = rw (or-false (not (bit (getD m 16 0) 6)))
+
+-- where the code has the two tests as it found them
+pub fills : {m : List ℕ} → IsImage m → {v : ℕ} → v < 256 → {x y : Bool} → x ≡ latchAccess (stateAt m) (Write 0x06 v) → y ≡ automaticAck (stateAt m) (Write 0x06 v) → Leaves m 0x06 v (latchFilled x y (stateAt m) v)
+unfolding Leaving
+fills {m} g {v} f p q = record { image = g; fits = (scsidat .fits, f); done = scsidat .done (stateAt m) v (g .range .transfer .host); after = (λ i. latchFilled (p i) (q i) (stateAt m) v) ∙ scsidat .after (stateAt m) v }
 
 -- "The counter writes as 24 bits, 348h lowest"
 pub stcnt0 : Does 0x08 (λ (s : State) (v : ℕ). kept (withCounter (counterWith 0 v (s .transfer .counter)) s))
@@ -118,22 +130,12 @@ pub stack : Does 0x1D (λ (s : State) (v : ℕ). kept (withStack (stackWritten (
 unfolding Leaving
 stack = record { fits = omega arith; done = λ s v. write-code s 0x1D v; after = λ s v. refl }
 
--- "A write to 346h fills the latch.", and an Automatic ACK "adds one to the counter"
-abbrev pub latchFilled : Bool → Bool → State → ℕ → State
-latchFilled accessed acked s v =
-    let t = storing 0x06 (ackCounted acked s) v in
-    withStatus (statusA accessed acked (t .registers .sxfrctl1 .enspchk) (t .status) WordRead) t
-
-pub scsidat : Does 0x06 (λ (s : State) (v : ℕ). latchFilled (latchAccess s (Write 0x06 v)) (automaticAck s (Write 0x06 v)) s v)
+-- a byte through the port goes behind
+pub port-leaves : {m : List ℕ} → IsImage m → {v : ℕ} → v < 256 → shutTo ((stateAt m) .registers .dmacntrl0) false false ≡ false → getD m 24 0 < 128 → Leaves m 0x16 v (kept (withHost ((stateAt m) .transfer .host ++ (v ∷ [])) (stateAt m)))
 unfolding Leaving
-scsidat = record { fits = omega arith; done = λ s v. write-code s 0x06 v; after = λ s v. refl }
+port-leaves g {v} f h l = record { image = g; fits = (omega arith, f); done = port-done g v h l; after = refl }
 
--- the access to the latch as the code tests it
-pub latch-accessed : (m : List ℕ) (v : ℕ) → (not (bit (getD m 16 0) 6) && bit (getD m 12 0) 7) ≡ latchAccess (stateAt m) (Write 0x06 v)
-unfolding latchAccess writes reads stateAt
-latch-accessed m v = rw (or-false (not (bit (getD m 16 0) 6)))
-
--- where the code has the two tests as it found them
-pub fills : {m : List ℕ} → IsImage m → {v : ℕ} → v < 256 → {x y : Bool} → x ≡ latchAccess (stateAt m) (Write 0x06 v) → y ≡ automaticAck (stateAt m) (Write 0x06 v) → Leaves m 0x06 v (latchFilled x y (stateAt m) v)
+-- 34Eh and 35Eh take 0
+pub test-leaves : {m : List ℕ} → IsImage m → {v : ℕ} → v < 256 → {o : ℕ} → Test o → v ≡ 0 → Leaves m o v (kept (stateAt m))
 unfolding Leaving
-fills {m} g {v} f p q = record { image = g; fits = (scsidat .fits, f); done = scsidat .done (stateAt m) v (g .range .transfer .host); after = (λ i. latchFilled (p i) (q i) (stateAt m) v) ∙ scsidat .after (stateAt m) v }
+test-leaves {m} g {v} f t z = record { image = g; fits = (t .fits, f); done = test-done g v t z; after = t .after (stateAt m) v }

@@ -3,7 +3,7 @@ pub mod Effects
 pub mod Endings
 pub mod Going
 pub mod PartsOfA
-pub mod PortCode
 pub mod Reached
 pub mod ThroughA
 pub mod Unwritable
+pub mod WriteCodes

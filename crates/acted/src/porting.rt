@@ -15,7 +15,7 @@ use ports::host::host_pushed;
 use rules::codes::Code;
 
 // "data port shut: ENDMA 0, DMA/PIO 1, width or direction wrong"
-pub fn port_shut(m: &[u8; 196]) -> bool
+fn port_shut(m: &[u8; 196]) -> bool
     ensures { λ b. ⌜ b ≡ shutTo ((stateAt (now (m .entry))) .registers .dmacntrl0) false false ⌝ }
 {
     let d = m[9];

@@ -32,7 +32,7 @@ use stores::stacking::stack_written;
 use stores::storing::stored;
 
 // A register that is only stored.
-pub fn plain_written(m: &mut [u8; 196], register: Register, value: u8) -> Acted
+fn plain_written(m: &mut [u8; 196], register: Register, value: u8) -> Acted
     requires { ⌜ IsImage (now m) ⌝ }
     requires { ⌜ Plain register ⌝ }
     ensures { λ r. ⌜ Acts (stateAt (now (m .entry))) (Write (offsetOf register) value) (now (m .exit)) r ⌝ }
@@ -43,7 +43,7 @@ pub fn plain_written(m: &mut [u8; 196], register: Register, value: u8) -> Acted
 }
 
 // 348h: "The counter writes as 24 bits, 348h lowest".
-pub fn low_counter(m: &mut [u8; 196], value: u8) -> Acted
+fn low_counter(m: &mut [u8; 196], value: u8) -> Acted
     requires { ⌜ IsImage (now m) ⌝ }
     ensures { λ r. ⌜ Acts (stateAt (now (m .entry))) (Write (offsetOf STCNT0) value) (now (m .exit)) r ⌝ }
 {
@@ -53,7 +53,7 @@ pub fn low_counter(m: &mut [u8; 196], value: u8) -> Acted
 }
 
 // 349h.
-pub fn middle_counter(m: &mut [u8; 196], value: u8) -> Acted
+fn middle_counter(m: &mut [u8; 196], value: u8) -> Acted
     requires { ⌜ IsImage (now m) ⌝ }
     ensures { λ r. ⌜ Acts (stateAt (now (m .entry))) (Write (offsetOf STCNT1) value) (now (m .exit)) r ⌝ }
 {
@@ -63,7 +63,7 @@ pub fn middle_counter(m: &mut [u8; 196], value: u8) -> Acted
 }
 
 // 34Ah.
-pub fn high_counter(m: &mut [u8; 196], value: u8) -> Acted
+fn high_counter(m: &mut [u8; 196], value: u8) -> Acted
     requires { ⌜ IsImage (now m) ⌝ }
     ensures { λ r. ⌜ Acts (stateAt (now (m .entry))) (Write (offsetOf STCNT2) value) (now (m .exit)) r ⌝ }
 {
@@ -73,7 +73,7 @@ pub fn high_counter(m: &mut [u8; 196], value: u8) -> Acted
 }
 
 // "CLRCH empties the SCSI FIFO and zeroes the offset"
-pub fn channel_by(m: &mut [u8; 196], value: u8)
+fn channel_by(m: &mut [u8; 196], value: u8)
     requires { ⌜ IsImage (now m) ⌝ }
     ensures { λ _. ⌜ now (m .exit) ≡ imageOf (channelCleared (stateAt (now (m .entry))) value) ⌝ }
 {
@@ -84,7 +84,7 @@ pub fn channel_by(m: &mut [u8; 196], value: u8)
 }
 
 // "CLRSTCNT zeroes the counter"
-pub fn counter_by(m: &mut [u8; 196], value: u8)
+fn counter_by(m: &mut [u8; 196], value: u8)
     ensures { λ _. ⌜ ((s : State) → now (m .entry) ≡ imageOf s → now (m .exit) ≡ imageOf (counterCleared s value)) ⌝ }
 {
     let clears = (value >> 4) % 2 == 1;
@@ -94,7 +94,7 @@ pub fn counter_by(m: &mut [u8; 196], value: u8)
 }
 
 // 341h: the bits that clear, then what is stored.
-pub fn transfer_control(m: &mut [u8; 196], value: u8) -> Acted
+fn transfer_control(m: &mut [u8; 196], value: u8) -> Acted
     requires { ⌜ IsImage (now m) ⌝ }
     ensures { λ r. ⌜ Acts (stateAt (now (m .entry))) (Write (offsetOf SXFRCTL0) value) (now (m .exit)) r ⌝ }
 {
@@ -106,7 +106,7 @@ pub fn transfer_control(m: &mut [u8; 196], value: u8) -> Acted
 }
 
 // "RSTFIFO empties the host FIFO"
-pub fn host_by(m: &mut [u8; 196], value: u8)
+fn host_by(m: &mut [u8; 196], value: u8)
     requires { ⌜ IsImage (now m) ⌝ }
     ensures { λ _. ⌜ now (m .exit) ≡ imageOf (hostCleared (stateAt (now (m .entry))) value) ⌝ }
 {
@@ -117,7 +117,7 @@ pub fn host_by(m: &mut [u8; 196], value: u8)
 }
 
 // 352h: the bit that clears, then what is stored.
-pub fn dma_control(m: &mut [u8; 196], value: u8) -> Acted
+fn dma_control(m: &mut [u8; 196], value: u8) -> Acted
     requires { ⌜ IsImage (now m) ⌝ }
     ensures { λ r. ⌜ Acts (stateAt (now (m .entry))) (Write (offsetOf DMACNTRL0) value) (now (m .exit)) r ⌝ }
 {
@@ -128,7 +128,7 @@ pub fn dma_control(m: &mut [u8; 196], value: u8) -> Acted
 }
 
 // 353h: "PWRDWN 7, ENSTK32 6, pointer 4-0." The pointer stands with the stack.
-pub fn stack_control(m: &mut [u8; 196], value: u8) -> Acted
+fn stack_control(m: &mut [u8; 196], value: u8) -> Acted
     requires { ⌜ IsImage (now m) ⌝ }
     ensures { λ r. ⌜ Acts (stateAt (now (m .entry))) (Write (offsetOf DMACNTRL1) value) (now (m .exit)) r ⌝ }
 {
@@ -139,7 +139,7 @@ pub fn stack_control(m: &mut [u8; 196], value: u8) -> Acted
 }
 
 // 35Dh: "uses the place the pointer names, then the pointer goes up one".
-pub fn stack_pushed(m: &mut [u8; 196], value: u8) -> Acted
+fn stack_pushed(m: &mut [u8; 196], value: u8) -> Acted
     requires { ⌜ IsImage (now m) ⌝ }
     ensures { λ r. ⌜ Acts (stateAt (now (m .entry))) (Write (offsetOf STACK) value) (now (m .exit)) r ⌝ }
 {
@@ -149,7 +149,7 @@ pub fn stack_pushed(m: &mut [u8; 196], value: u8) -> Acted
 }
 
 // An Automatic ACK "turns automatic ACK on, adds one to the counter".
-pub fn ack_by(m: &mut [u8; 196], acked: bool)
+fn ack_by(m: &mut [u8; 196], acked: bool)
     requires { ⌜ IsImage (now m) ⌝ }
     ensures { λ _. ⌜ now (m .exit) ≡ imageOf (ackCounted acked (stateAt (now (m .entry)))) ⌝ }
 {
@@ -159,7 +159,7 @@ pub fn ack_by(m: &mut [u8; 196], acked: bool)
 }
 
 // "A write to 346h fills the latch."; with SPIORDY and IO not seen it is an access, which may be acknowledged.
-pub fn latch_filled(m: &mut [u8; 196], value: u8) -> Acted
+fn latch_filled(m: &mut [u8; 196], value: u8) -> Acted
     requires { ⌜ IsImage (now m) ⌝ }
     ensures { λ r. ⌜ Acts (stateAt (now (m .entry))) (Write (offsetOf SCSIDAT) value) (now (m .exit)) r ⌝ }
 {
@@ -172,7 +172,7 @@ pub fn latch_filled(m: &mut [u8; 196], value: u8) -> Acted
 }
 
 // 34Eh and 35Eh take 0 only.
-pub fn test_written(m: &mut [u8; 196], value: u8) -> Acted
+fn test_written(m: &mut [u8; 196], value: u8) -> Acted
     requires { ⌜ IsImage (now m) ⌝ }
     ensures { λ r. ⌜ (Acts (stateAt (now (m .entry))) (Write (offsetOf SCSITEST) value) (now (m .exit)) r) × (Acts (stateAt (now (m .entry))) (Write (offsetOf TEST) value) (now (m .exit)) r) ⌝ }
 {
@@ -184,7 +184,7 @@ pub fn test_written(m: &mut [u8; 196], value: u8) -> Acted
 }
 
 // What a write finds: one arm for each register that can be written.
-pub fn write_found(m: &mut [u8; 196], register: Register, value: u8) -> Acted
+fn write_found(m: &mut [u8; 196], register: Register, value: u8) -> Acted
     requires { ⌜ IsImage (now m) ⌝ }
     requires { ⌜ Written register ⌝ }
     ensures { λ r. ⌜ Acts (stateAt (now (m .entry))) (Write (offsetOf register) value) (now (m .exit)) r ⌝ }

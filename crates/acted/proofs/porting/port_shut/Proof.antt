@@ -1,5 +1,5 @@
 use borrow.Author.Needs.{needs}
-use Rattle.acted.proofs.PortCode.{shut-is}
+use Rattle.acted.proofs.WriteCodes.{shut-is}
 use Rattle.acted.proofs.porting.port_shut.Statement.{statement}
 use Rattle.acted.proofs.porting.port_shut.Tie as tie
 

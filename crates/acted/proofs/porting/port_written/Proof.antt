@@ -7,9 +7,10 @@ use Rattle.rules.specs.Events.{ticksOf}
 use Rattle.rules.specs.declared.codes.Code.the-variants.{Shut, NoRoom}
 use Rattle.rules.specs.declared.records.Event.the-variants.{Write, WordRead}
 use Rattle.image.specs.Image.{stateAt}
+use Rattle.acted.proofs.Effects.{port-leaves}
 use Rattle.acted.proofs.Endings.{acts-refused}
-use Rattle.acted.proofs.PortCode as port
 use Rattle.acted.proofs.Reached.{start, there, carried, flagged, acts}
+use Rattle.acted.proofs.WriteCodes.{port-shut, port-full}
 use Rattle.acted.proofs.porting.port_written.Statement.{statement}
 use Rattle.acted.proofs.porting.port_written.Tie as tie
 
@@ -19,7 +20,7 @@ returns c =
     let t = c .before .before in
     let a = t .before .before in
     let v = a .args .value in
-    acts-refused (stateAt (a .args .m .now)) (Write 0x16 v) Shut (port.port-shut (a .pre) v (sym (t .port-shut .ensures) ∙ c .before .if1 .taken)) refl (a .pre .packed) refl refl (c .refused-as .ensures)
+    acts-refused (stateAt (a .args .m .now)) (Write 0x16 v) Shut (port-shut (a .pre) v (sym (t .port-shut .ensures) ∙ c .before .if1 .taken)) refl (a .pre .packed) refl refl (c .refused-as .ensures)
 
 returns-2 : tie.Need-returns-2
 unfolding refusedValue ticksOf
@@ -28,7 +29,7 @@ returns-2 c =
     let t = l .before in
     let a = t .before .before in
     let v = a .args .value in
-    acts-refused (stateAt (a .args .m .now)) (Write 0x16 v) NoRoom (port.port-full (a .pre) v (sym (t .port-shut .ensures) ∙ l .if1 .left) (omega (arith, c .before .if2 .taken))) refl (a .pre .packed) refl refl (c .refused-as2 .ensures)
+    acts-refused (stateAt (a .args .m .now)) (Write 0x16 v) NoRoom (port-full (a .pre) v (sym (t .port-shut .ensures) ∙ l .if1 .left) (omega (arith, c .before .if2 .taken))) refl (a .pre .packed) refl refl (c .refused-as2 .ensures)
 
 host-pushed-requires : tie.Need-host-pushed-requires
 host-pushed-requires c κs = (c .before .before .before .before .before .before .pre, omega (arith, c .before .if2 .left))
@@ -39,7 +40,7 @@ status-kept-in-requires c κs =
     let l = f .before .before in
     let t = l .before in
     let a = t .before .before in
-    there (carried (port.port-open (a .pre) (a .args .value) (sym (t .port-shut .ensures) ∙ l .if1 .left) (omega (arith, f .if2 .left)) (a .fits .value .fits)) (start (a .pre)) (c .before .host-pushed .ensures))
+    there (carried (port-leaves (a .pre) (a .fits .value .fits) (sym (t .port-shut .ensures) ∙ l .if1 .left) (omega (arith, f .if2 .left))) (start (a .pre)) (c .before .host-pushed .ensures))
 
 returns-3 : tie.Need-returns-3
 returns-3 c =
@@ -48,7 +49,7 @@ returns-3 c =
     let l = f .before .before in
     let t = l .before in
     let a = t .before .before in
-    let o = port.port-open (a .pre) (a .args .value) (sym (t .port-shut .ensures) ∙ l .if1 .left) (omega (arith, f .if2 .left)) (a .fits .value .fits) in
+    let o = port-leaves (a .pre) (a .fits .value .fits) (sym (t .port-shut .ensures) ∙ l .if1 .left) (omega (arith, f .if2 .left)) in
     acts o (flagged (carried o (start (a .pre)) (x .host-pushed .ensures)) false false WordRead (c .before .status-kept-in .ensures)) (c .done-with .ensures)
 
 pub port-written-spec : {M : Type 1} → statement M

@@ -1,5 +1,4 @@
-use Prim.Native.Nat.{ℕ}
-use mathlib.Core.Path.{refl, sym, subst, _∙_}
+use mathlib.Core.Path.{refl, sym, _∙_}
 use borrow.Author.Needs.{needs}
 use Rattle.rules.specs.Codes.{refusedValue}
 use Rattle.rules.specs.Events.{ticksOf}
@@ -8,9 +7,8 @@ use Rattle.rules.specs.declared.records.Event.the-variants.{Write}
 use Rattle.image.specs.Image.{stateAt}
 use Rattle.map.proofs.Offsets.{written-offset}
 use Rattle.stores.proofs.Names.{found-written}
-use Rattle.acted.specs.Acting.{Acts}
 use Rattle.acted.proofs.Endings.{acts-refused}
-use Rattle.acted.proofs.PortCode.{absent-code}
+use Rattle.acted.proofs.WriteCodes.{absent}
 use Rattle.acted.proofs.writing.write_in.Statement.{statement}
 use Rattle.acted.proofs.writing.write_in.Tie as tie
 
@@ -32,7 +30,7 @@ returns-2 c =
     let t = c .before in
     let a = t .before .before in
     let x = a .before .args in
-    acts-refused (stateAt (x .m .now)) (Write (x .offset) (x .value)) Absent (absent-code (a .before .pre) (x .value) (x .offset) (sym (a .register-at .ensures) ∙ t .enum-told .given .1)) refl (a .before .pre .packed) refl refl (c .refused-as .ensures)
+    acts-refused (stateAt (x .m .now)) (Write (x .offset) (x .value)) Absent (absent (a .before .pre) (x .value) (x .offset) (sym (a .register-at .ensures) ∙ t .enum-told .given .1)) refl (a .before .pre .packed) refl refl (c .refused-as .ensures)
 
 pub write-in-spec : {M : Type 1} → statement M
 write-in-spec = tie.close (tie.spec (λ c κs. search needs) (λ c. search needs) write-found-requires (λ c. search needs) (λ c κs. search needs) returns returns-2)
