@@ -1,5 +1,6 @@
 pub mod Coding
 pub mod Driven
+pub mod Effects
 pub mod Endings
 pub mod Going
 pub mod LineBits
@@ -7,4 +8,7 @@ pub mod PartsOfA
 pub mod ReadFound
 pub mod ReadLaws
 pub mod ReadParts
+pub mod Reached
 pub mod ThroughA
+pub mod Unwritable
+pub mod WriteCodes

@@ -4,8 +4,10 @@ ghost use Rattle.acted.specs.Acting.{refusedAs, doneWith};
 use rules::codes::Code;
 
 pub mod acting;
+pub mod clearing;
 pub mod coded;
 pub mod driving;
+pub mod porting;
 pub mod reading;
 pub mod writing;
 

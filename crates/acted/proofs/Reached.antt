@@ -1,0 +1,97 @@
+-- The states that a write goes through in A, each with its image.
+use Prim.Native.Nat.{ℕ}
+use mathlib.Core.Path.{_≡_, refl, ap, sym, subst, _∙_}
+use mathlib.Core.Bool.{Bool}
+use mathlib.Core.List.{List}
+use Rattle.rules.specs.State.{State}
+use Rattle.rules.specs.Events.{ticksOf}
+use Rattle.rules.specs.Codes.{accessCode}
+use Rattle.rules.specs.Reads.{valueRead}
+use Rattle.rules.specs.StepA.{registersA, statusA, latchesA, afterA}
+use Rattle.rules.specs.Ranges.{InRange, InBytes, EventFits}
+use Rattle.rules.specs.declared.registers.Registers.{Registers}
+use Rattle.rules.specs.declared.codes.Code.the-variants.{Done}
+use Rattle.rules.specs.declared.records.Event.{Event}
+use Rattle.rules.specs.declared.records.Event.the-variants.{Write}
+use Rattle.image.specs.Image.{imageOf, stateAt, IsImage, withRegisters, withTransfer, withStatus, withLatches, withStack}
+use Rattle.acted.specs.declared.Acted.{Acted}
+use Rattle.acted.specs.Acting.{Acts, doneWith}
+use Rattle.acted.proofs.Endings.{acts-done}
+use Rattle.acted.proofs.Going.{image-is, onward}
+use Rattle.acted.proofs.ThroughA.{a-fits, a-bytes}
+
+pub record Reached (m : List ℕ) (t : State) : Type 0 where
+  pub image : m ≡ imageOf t
+  pub range : InRange t
+  pub bytes : InBytes t
+
+pub start : {m : List ℕ} → IsImage m → Reached m (stateAt m)
+start g = record { image = g .packed; range = g .range; bytes = g .bytes }
+
+-- the parts that have no range
+module _ {m : List ℕ} {t : State} (r : Reached m t) where
+  pub there : IsImage m
+  there = image-is t (r .image) (r .range) (r .bytes)
+
+  pub flagged : (accessed acked : Bool) (k : Event) {n : List ℕ} → n ≡ imageOf (withStatus (statusA accessed acked ((stateAt m) .registers .sxfrctl1 .enspchk) ((stateAt m) .status) k) (stateAt m)) → Reached n (withStatus (statusA accessed acked (t .registers .sxfrctl1 .enspchk) (t .status) k) t)
+  flagged accessed acked k h =
+      record {
+        image = onward (λ (x : State). withStatus (statusA accessed acked (x .registers .sxfrctl1 .enspchk) (x .status) k) x) t (r .image) (r .range) (r .bytes) h;
+        range = record { registers = r .range .registers; transfer = r .range .transfer; stack = r .range .stack; quiet = r .range .quiet; identity = r .range .identity };
+        bytes = record { lines = r .bytes .lines; registers = r .bytes .registers; transfer = r .bytes .transfer; stack = r .bytes .stack };
+      }
+
+  pub unlatched : (k : Event) {n : List ℕ} → n ≡ imageOf (withLatches (latchesA ((stateAt m) .latches) k) (stateAt m)) → Reached n (withLatches (latchesA (t .latches) k) t)
+  unlatched k h =
+      record {
+        image = onward (λ (x : State). withLatches (latchesA (x .latches) k) x) t (r .image) (r .range) (r .bytes) h;
+        range = record { registers = r .range .registers; transfer = r .range .transfer; stack = r .range .stack; quiet = r .range .quiet; identity = r .range .identity };
+        bytes = record { lines = r .bytes .lines; registers = r .bytes .registers; transfer = r .bytes .transfer; stack = r .bytes .stack };
+      }
+
+-- a write that is done, and the state that it leaves
+pub record Leaves (b : List ℕ) (o v : ℕ) (w : State) : Type 0 where
+  pub image : IsImage b
+  pub fits : EventFits (Write o v)
+  pub done : accessCode (stateAt b) (Write o v) ≡ Done
+  pub after : w ≡ afterA (stateAt b) (Write o v)
+
+module _ {b : List ℕ} {o v : ℕ} {w : State} (l : Leaves b o v w) where
+  range-left : InRange w
+  range-left = subst InRange (sym (l .after)) (a-fits (l .image) (Write o v) (l .fits) (l .done))
+
+  bytes-left : InBytes w
+  bytes-left = subst InBytes (sym (l .after)) (a-bytes (l .image) (Write o v) (l .fits) (l .done))
+
+  -- a part of what it leaves, in place
+  module _ {m n : List ℕ} {t : State} (r : Reached m t) where
+    pub stored : registersA (t .registers) (Write o v) ≡ w .registers → n ≡ imageOf (withRegisters (registersA ((stateAt m) .registers) (Write o v)) (stateAt m)) → Reached n (withRegisters (w .registers) t)
+    stored q h =
+        record {
+          image =
+              onward (λ (x : State). withRegisters (registersA (x .registers) (Write o v)) x) t (r .image) (r .range) (r .bytes) h
+              ∙ ap (λ (x : Registers). imageOf (withRegisters x t)) q;
+          range = record { registers = range-left .registers; transfer = r .range .transfer; stack = r .range .stack; quiet = r .range .quiet; identity = r .range .identity };
+          bytes = record { lines = r .bytes .lines; registers = bytes-left .registers; transfer = r .bytes .transfer; stack = r .bytes .stack };
+        }
+
+    pub carried : n ≡ imageOf (withTransfer (w .transfer) t) → Reached n (withTransfer (w .transfer) t)
+    carried h =
+        record {
+          image = h;
+          range = record { registers = r .range .registers; transfer = range-left .transfer; stack = r .range .stack; quiet = r .range .quiet; identity = r .range .identity };
+          bytes = record { lines = r .bytes .lines; registers = r .bytes .registers; transfer = bytes-left .transfer; stack = r .bytes .stack };
+        }
+
+    pub stacked : n ≡ imageOf (withStack (w .stack) t) → Reached n (withStack (w .stack) t)
+    stacked h =
+        record {
+          image = h;
+          range = record { registers = r .range .registers; transfer = r .range .transfer; stack = range-left .stack; quiet = r .range .quiet; identity = r .range .identity };
+          bytes = record { lines = r .bytes .lines; registers = r .bytes .registers; transfer = r .bytes .transfer; stack = bytes-left .stack };
+        }
+
+  -- all of what it leaves
+  pub acts : {n : List ℕ} {a : Acted} → Reached n w → a ≡ doneWith 0 0 → Acts (stateAt b) (Write o v) n a
+  unfolding valueRead ticksOf
+  acts r h = acts-done (stateAt b) (Write o v) (l .done) (r .image ∙ ap imageOf (l .after)) refl refl h
