@@ -8,16 +8,6 @@ use Rattle.turns.specs.Opening.{OpensEvent}
 use Rattle.turns.proofs.opening.opened_event.Statement.{statement}
 use Rattle.turns.proofs.opening.opened_event.Tie as tie
 
-write-in-requires : tie.Need-write-in-requires
-write-in-requires c κs =
-    let start = c .before .before .before .before in
-    (start .pre .0, rw (c .before .before .e .given .1) at (start .pre .1))
-
-read-in-requires : tie.Need-read-in-requires
-read-in-requires c κs =
-    let start = c .before .before .before .before in
-    (start .pre .0, rw (c .before .before .e2 .given .1) at (start .pre .1))
-
 returns : tie.Need-returns
 returns c = rw (c .before .before .enum-told .given .1) (c .power-reset-in .ensures)
 
@@ -38,4 +28,4 @@ returns-4 c =
 pub opened-event-spec : {M : Type 1} → statement M
 opened-event-spec =
     tie.close
-    (tie.spec (λ c. search needs) (λ c κs. search needs) (λ c. search needs) write-in-requires (λ c. search needs) read-in-requires (λ c κs. search needs) returns returns-2 returns-3 returns-4)
+    (tie.spec (λ c. search needs) (λ c κs. search needs) (λ c. search needs) (λ c κs. search needs) (λ c. search needs) (λ c κs. search needs) (λ c κs. search needs) returns returns-2 returns-3 returns-4)
