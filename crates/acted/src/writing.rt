@@ -52,7 +52,7 @@ fn low_counter(m: &mut [u8; 196], value: u8) -> Acted
     done_with(0, 0)
 }
 
-// 349h.
+// 349h, the middle byte.
 fn middle_counter(m: &mut [u8; 196], value: u8) -> Acted
     requires { ⌜ IsImage (now m) ⌝ }
     ensures { λ r. ⌜ Acts (stateAt (now (m .entry))) (Write (offsetOf STCNT1) value) (now (m .exit)) r ⌝ }
@@ -62,7 +62,7 @@ fn middle_counter(m: &mut [u8; 196], value: u8) -> Acted
     done_with(0, 0)
 }
 
-// 34Ah.
+// 34Ah, the highest.
 fn high_counter(m: &mut [u8; 196], value: u8) -> Acted
     requires { ⌜ IsImage (now m) ⌝ }
     ensures { λ r. ⌜ Acts (stateAt (now (m .entry))) (Write (offsetOf STCNT2) value) (now (m .exit)) r ⌝ }

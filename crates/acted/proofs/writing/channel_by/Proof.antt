@@ -1,4 +1,3 @@
-use borrow.Author.Needs.{needs}
 use Rattle.image.specs.Image.{stateAt}
 use Rattle.ports.proofs.Fronts.{placed-at, imaged-at}
 use Rattle.acted.proofs.writing.channel_by.Statement.{statement}

@@ -1,5 +1,4 @@
 use mathlib.Core.Path.{refl}
-use mathlib.Core.Bool.{false}
 use borrow.Author.Needs.{needs}
 use Rattle.rules.specs.Map.{table, writtenAt}
 use Rattle.rules.specs.declared.records.Event.the-variants.{Write, WordRead}
