@@ -1,7 +1,7 @@
 // A of a record: what it is, its checks, and its own effect.
 ghost use mathlib.Core.Path.{_≡_};
 ghost use Rattle.rules.specs.Records.{decode};
-ghost use Rattle.rules.specs.Ranges.{EventFits, DecodedFits};
+ghost use Rattle.rules.specs.Ranges.{EventFits};
 ghost use Rattle.rules.specs.State.{powerReset};
 ghost use Rattle.rules.specs.declared.codes.Code.the-variants.{Done};
 ghost use Rattle.image.specs.Image.{IsImage, stateAt};
@@ -39,19 +39,7 @@ fn opened_event(m: &mut [u8; 196], e: Event) -> Acted
     }
 }
 
-// "record not 4 bytes or not well formed" is code 1.
-fn opened_by(m: &mut [u8; 196], d: Decoded) -> Acted
-    requires { ⌜ IsImage (now m) ⌝ }
-    requires { ⌜ DecodedFits d ⌝ }
-    ensures { λ r. ⌜ Opens (stateAt (now (m .entry))) d (now (m .exit)) r ⌝ }
-{
-    let Decoded::Well(e) = d else {
-        return refused_as(Code::Malformed, 0);
-    };
-    opened_event(m, e)
-}
-
-// Most records are line events, and their bits need not be taken apart.
+// Most records are line events, and their bits need not be taken apart; "record not 4 bytes or not well formed" is code 1.
 pub fn opened(m: &mut [u8; 196], bytes: &[u8]) -> Acted
     requires { ⌜ IsImage (now m) ⌝ }
     ensures { λ r. ⌜ Opens (stateAt (now (m .entry))) (decode (now (bytes .entry))) (now (m .exit)) r ⌝ }
@@ -66,5 +54,8 @@ pub fn opened(m: &mut [u8; 196], bytes: &[u8]) -> Acted
         }
     }
     let d = wire::decode(bytes);
-    opened_by(m, d)
+    let Decoded::Well(e) = d else {
+        return refused_as(Code::Malformed, 0);
+    };
+    opened_event(m, e)
 }

@@ -9,12 +9,9 @@ use lib.ListN.{length, getD}
 use Rattle.rules.specs.Records.{linesOf, payloadOf, wellFormed, fieldsOf, decode}
 use Rattle.rules.specs.Ranges.{DecodedFits}
 use Rattle.rules.specs.declared.records.Event.the-variants.{Drive}
-use Rattle.rules.specs.declared.records.Decoded.{Decoded}
 use Rattle.rules.specs.declared.records.Decoded.the-variants.{Well}
 use Rattle.rules.proofs.Logic.{left-true, right-true}
 use Rattle.rules.proofs.Ranges.{decode-fits}
-use Rattle.image.specs.Image.{stateAt}
-use Rattle.turns.specs.Opening.{Opens}
 use Rattle.turns.proofs.opening.opened.Statement.{statement}
 use Rattle.turns.proofs.opening.opened.Tie as tie
 
@@ -34,19 +31,27 @@ returns c =
     let p : ltb (read .payload .result) 262144 ≡ true = right-true (eqb (getD l 0 0) 0xA0) (ltb (read .payload .result) 262144) (second .if2 .taken) in
     rw (is-drive l (long .if1 .taken) (eqb-true (getD l 0 0) 0xA0 (left-true (eqb (getD l 0 0) 0xA0) (ltb (read .payload .result) 262144) (second .if2 .taken))) (rw (read .payload .ensures) at p)) (c .drive-in .ensures)
 
-opened-by-requires : tie.Need-opened-by-requires
-opened-by-requires c κs =
-    let read = c .before in
-    let start = read .before .before .before in
-    (start .pre, subst DecodedFits (sym (read .decode .ensures)) (decode-fits (start .args .bytes .now)))
-
 returns-2 : tie.Need-returns-2
 returns-2 c =
-    let read = c .before .before in
-    let a = read .before .before .before .args in
-    subst (λ (d : Decoded). Opens (stateAt (a .m .now)) d (c .opened-by .last .0) (c .opened-by .result)) (read .decode .ensures) (c .opened-by .ensures)
+    let told = c .before in
+    let read = told .before .before in
+    let start = read .before .before .before in
+    rw (sym (read .decode .ensures) ∙ told .enum-told .given .1) (record { image = start .pre .packed; acted = c .refused-as .ensures })
+
+opened-event-requires : tie.Need-opened-event-requires
+opened-event-requires c κs =
+    let known = c .before .before in
+    let read = known .before .before in
+    let start = read .before .before .before in
+    (start .pre, subst DecodedFits (sym (read .decode .ensures) ∙ known .d .given .1) (decode-fits (start .args .bytes .now)))
+
+returns-3 : tie.Need-returns-3
+returns-3 c =
+    let known = c .before .before .before in
+    let read = known .before .before in
+    rw (sym (read .decode .ensures) ∙ known .d .given .1) (c .opened-event .ensures)
 
 pub opened-spec : {M : Type 1} → statement M
 opened-spec =
     tie.close
-    (tie.spec (λ c. search needs) (λ c. search needs) (λ c. search needs) (λ c κs. search needs) (λ c. search needs) (λ c κs. search needs) returns (λ c κs. search needs) opened-by-requires returns-2)
+    (tie.spec (λ c. search needs) (λ c. search needs) (λ c. search needs) (λ c κs. search needs) (λ c. search needs) (λ c κs. search needs) returns (λ c κs. search needs) (λ c. search needs) (λ c. search needs) (λ c κs. search needs) returns-2 opened-event-requires returns-3)
