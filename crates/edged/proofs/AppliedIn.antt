@@ -31,12 +31,15 @@ lines-at s =
       bit-0 (s .lines .cd) (s .lines .io) (s .lines .msg) (s .lines .atn) (s .lines .sel) (s .lines .bsy) (s .lines .req) (s .lines .ack),
     )
 
+pub lines-of : (m : List ℕ) (s : State) → m ≡ imageOf s → linesAt m ≡ s .lines
+lines-of m s e = ap linesAt e ∙ lines-at s
+
 -- a mismatch is seen by 340h, 343h and the lines alone
 mismatched-by : (r q : Registers) (l k : Lines) → r .scsisig ≡ q .scsisig → r .scsiseq ≡ q .scsiseq → l ≡ k → mismatched r l ≡ mismatched q k
 unfolding mismatched matched connected bsySeen selSeen rstSeen
 mismatched-by r q l k a b d = rw (a, b, d)
 
-mismatched-at : (m : List ℕ) (s : State) → m ≡ imageOf s → mismatched (registersAt m) (linesAt m) ≡ mismatched (s .registers) (s .lines)
+pub mismatched-at : (m : List ℕ) (s : State) → m ≡ imageOf s → mismatched (registersAt m) (linesAt m) ≡ mismatched (s .registers) (s .lines)
 mismatched-at m s e =
     ap (λ (l : List ℕ). mismatched (registersAt l) (linesAt l)) e
     ∙ mismatched-by (registersAt (imageOf s)) (s .registers) (linesAt (imageOf s)) (s .lines) (sig-at s) (seq-at s) (lines-at s)

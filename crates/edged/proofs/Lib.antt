@@ -4,3 +4,5 @@ pub mod EdgesIn
 pub mod Placed
 pub mod AppliedIn
 pub mod Room
+pub mod Frequent
+pub mod InTurn

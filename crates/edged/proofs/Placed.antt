@@ -17,7 +17,7 @@ use Rattle.rules.specs.declared.registers.Sxfrctl0.{Sxfrctl0}
 use Rattle.rules.specs.declared.registers.Scsisig.{Scsisig}
 use Rattle.rules.specs.declared.chip.Status.{Status}
 use Rattle.rules.specs.declared.chip.Edges.{Edges}
-use Rattle.image.specs.Image.{imageOf, headOf, scsisigByte, statusOf, statusByte, withRegisters, withTransfer, withStatus, withQuiet}
+use Rattle.image.specs.Image.{imageOf, stateAt, headOf, scsisigByte, statusOf, statusByte, withRegisters, withTransfer, withStatus, withQuiet}
 use Rattle.image.proofs.EightBits.{is-one, bit-0, bit-1, bit-2, bit-3, bit-4, bit-5, bit-6, bit-7}
 use Rattle.laws.proofs.Lists.{padded-push, padded-length}
 use Rattle.edged.specs.Parts.{storedB, countedB}
@@ -156,17 +156,46 @@ pub path-parts : (g : Edges) (byte : ℕ) (s : State) → imageOf (withTransfer 
 unfolding transferB
 path-parts g byte s = refl
 
--- the status in its place
-status-set : (s : State) (g : Edges) (changed : Bool) {t : Status} → t ≡ s .status → set (imageOf s) 12 (statusByte (statusB g changed t)) ≡ imageOf (withStatus (statusB g changed (s .status)) s)
+-- the status in its place, changed by a part of B
+status-set : (s : State) (part : Status → Status) {t : Status} → t ≡ s .status → set (imageOf s) 12 (statusByte (part t)) ≡ imageOf (withStatus (part (s .status)) s)
 unfolding imageOf
-status-set s g changed a = rw a
+status-set s part a = rw a
 
-pub status-placed : (m : List ℕ) (g : Edges) (changed : Bool) (s : State) {v : ℕ} → m ≡ imageOf s → v ≡ statusByte (statusB g changed (statusOf (getD m 12 0))) → set m 12 v ≡ imageOf (withStatus (statusB g changed (s .status)) s)
-status-placed m g changed s e f =
-    ap (λ (x : ℕ). set m 12 x) f
-    ∙ ap (λ (l : List ℕ). set l 12 (statusByte (statusB g changed (statusOf (getD l 12 0))))) e
-    ∙ status-set s g changed (status-at s)
+pub status-placed : (m : List ℕ) (part : Status → Status) (s : State) {v : ℕ} → m ≡ imageOf s → v ≡ statusByte (part (statusOf (getD m 12 0))) → set m 12 v ≡ imageOf (withStatus (part (s .status)) s)
+status-placed m part s e f =
+    ap (λ (x : ℕ). set m 12 x) f ∙ ap (λ (l : List ℕ). set l 12 (statusByte (part (statusOf (getD l 12 0))))) e
+    ∙ status-set s part (status-at s)
 
 pub quiet-placed : (m : List ℕ) (n : ℕ) (s : State) → m ≡ imageOf s → set m 20 n ≡ imageOf (withQuiet n s)
 unfolding imageOf
 quiet-placed m n s e = ap (λ (l : List ℕ). set l 20 n) e
+
+-- one REQ more, and the automatic ACK released
+pub offset-placed : (m : List ℕ) (s : State) {offset : ℕ} → offset ≡ s .transfer .offset → m ≡ imageOf s → set m 17 (offset + 1) ≡ imageOf (withTransfer (countedB false true false (s .transfer)) s)
+unfolding imageOf
+offset-placed m s e f = rw e (ap (λ (l : List ℕ). set l 17 (s .transfer .offset + 1)) f)
+
+pub ack-placed : (m : List ℕ) (s : State) → m ≡ imageOf s → set m 18 0 ≡ imageOf (withTransfer (countedB false false true (s .transfer)) s)
+unfolding imageOf
+ack-placed m s e = ap (λ (l : List ℕ). set l 18 0) e
+
+-- a state that its image reads back as, with another status or other quiet ticks
+status-read : (s : State) (t : Status) → stateAt (imageOf (withStatus t s)) ≡ withStatus t (stateAt (imageOf s))
+unfolding imageOf stateAt
+status-read s t = rw (status-round t)
+
+pub status-back : (s : State) (t : Status) → stateAt (imageOf s) ≡ s → stateAt (imageOf (withStatus t s)) ≡ withStatus t s
+status-back s t e = status-read s t ∙ ap (λ (x : State). withStatus t x) e
+
+quiet-read : (s : State) (n : ℕ) → stateAt (imageOf (withQuiet n s)) ≡ withQuiet n (stateAt (imageOf s))
+unfolding imageOf stateAt
+quiet-read s n = refl
+
+pub quiet-back : (s : State) (n : ℕ) → stateAt (imageOf s) ≡ s → stateAt (imageOf (withQuiet n s)) ≡ withQuiet n s
+quiet-back s n e = quiet-read s n ∙ ap (λ (x : State). withQuiet n x) e
+
+pub packed-as : {n : List ℕ} (t : State) → n ≡ imageOf t → stateAt n ≡ t → n ≡ imageOf (stateAt n)
+packed-as t e f = e ∙ ap imageOf (sym f)
+
+pub status-again : {m n : List ℕ} {t : Status} → m ≡ imageOf (stateAt m) → n ≡ imageOf (withStatus t (stateAt m)) → stateAt n ≡ withStatus t (stateAt m)
+status-again {m} {n} {t} e f = ap stateAt f ∙ status-back (stateAt m) t (ap stateAt (sym e))

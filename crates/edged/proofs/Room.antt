@@ -1,14 +1,16 @@
 -- The edges that B finds leave room for their effects.
 use Prim.Native.Nat.{ℕ, _<_}
-use mathlib.Core.Path.{_≡_, refl, sym}
+use mathlib.Core.Path.{_≡_, refl, ap, sym, _∙_}
 use mathlib.Core.Bool.{Bool, true, false, not, _&&_, _||_}
+use mathlib.Core.List.{List}
 use native.Mathlib.Omega.{arith}
 use borrow.Author.Tests.{leb-false}
 use lib.Dec.{leb}
-use lib.ListN.{length}
+use lib.ListN.{length, getD}
 use Rattle.rules.specs.State.{State}
 use Rattle.rules.specs.Seen.{ioSeen, limit}
 use Rattle.rules.specs.StepB.{beyondLimit}
+use Rattle.image.specs.Image.{registersAt, linesAt}
 use Rattle.edged.specs.From.{synchronousReqFrom, edgesFrom}
 use Rattle.edged.specs.Room.{Room}
 
@@ -37,3 +39,14 @@ module _ (rst req : Bool) (s : State) (ticks : ℕ) where
 
   pub room-from : Room (edgesFrom rst req s ticks) (s .transfer)
   room-from = record { counted = offset-room; stored = scsi-room }
+
+-- the same, of the bytes of an array
+module _ (m : List ℕ) {b : Bool} (e : b ≡ (leb (limit (registersAt m)) (getD m 17 0) || ((linesAt m) .io && leb 8 (getD m 23 0)))) (f : b ≡ false) where
+  pub count-left : getD m 17 0 < 8
+  unfolding limit
+  count-left =
+      omega (arith, leb-false (limit (registersAt m)) (getD m 17 0) (counted-room true _ ((linesAt m) .io && leb 8 (getD m 23 0)) (ap not (sym e ∙ f))))
+
+  pub place-left : (linesAt m) .io ≡ true → getD m 23 0 < 8
+  place-left h =
+      leb-false 8 (getD m 23 0) (stored-room true (leb (limit (registersAt m)) (getD m 17 0)) ((linesAt m) .io) (leb 8 (getD m 23 0)) (rw (← e, f) h))

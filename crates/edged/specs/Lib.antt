@@ -2,3 +2,4 @@ pub mod Room
 pub mod Inbound
 pub mod From
 pub mod Parts
+pub mod Frequent

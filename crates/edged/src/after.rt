@@ -121,7 +121,8 @@ pub fn byte_seen(m: &[u8; 196], stored: bool) -> u8
     if stored { data_seen(m) } else { 0 }
 }
 
-fn byte_stored(m: &mut [u8; 196], byte: u8)
+// The byte in the first free place of the SCSI FIFO.
+pub fn byte_stored(m: &mut [u8; 196], byte: u8)
     requires { ⌜ getD (now m) 23 0 < 8 ⌝ }
     ensures { λ _. ⌜ now (m .exit) ≡ set (set (now (m .entry)) (28 + getD (now (m .entry)) 23 0) byte) 23 (getD (now (m .entry)) 23 0 + 1) ⌝ }
 {

@@ -34,7 +34,15 @@ pub fn req_rises(m: &[u8; 196], was: bool) -> bool
 fn checked(m: &[u8; 196]) -> bool
     ensures { λ b. ⌜ b ≡ (connected (registersAt (now (m .entry))) (linesAt (now (m .entry))) && (linesAt (now (m .entry))) .io && (registersAt (now (m .entry))) .sxfrctl1 .enspchk) ⌝ }
 {
-    connected(m) & ((m[16] >> 6) % 2 == 1) & ((m[2] >> 5) % 2 == 1)
+    if (m[2] >> 5) % 2 == 1 {
+        if (m[16] >> 6) % 2 == 1 {
+            connected(m)
+        } else {
+            false
+        }
+    } else {
+        false
+    }
 }
 
 // A parity error; the ones are only counted where it is to be checked.
@@ -55,12 +63,27 @@ pub fn parity_bad(m: &[u8; 196], rises: bool) -> bool
     if rises { inbound_bad(m) } else { false }
 }
 
+// A parity error at a REQ that rises, where it is not yet known whether it does.
+pub fn checked_bad(m: &[u8; 196], was: bool) -> bool
+    ensures { λ b. ⌜ b ≡ ((linesAt (now (m .entry))) .req && not was && not (rstSeen (registersAt (now (m .entry))) (linesAt (now (m .entry)))) && (connected (registersAt (now (m .entry))) (linesAt (now (m .entry))) && (linesAt (now (m .entry))) .io && (registersAt (now (m .entry))) .sxfrctl1 .enspchk && inboundEven (linesAt (now (m .entry))))) ⌝ }
+{
+    if (m[2] >> 5) % 2 == 1 {
+        parity_bad(m, req_rises(m, was))
+    } else {
+        false
+    }
+}
+
 // "If matched, path and synchronous"
 pub fn synchronous_req(m: &[u8; 196], rises: bool) -> bool
     ensures { λ b. ⌜ b ≡ (rises && matched (registersAt (now (m .entry))) (linesAt (now (m .entry))) && path (registersAt (now (m .entry))) && synchronous (registersAt (now (m .entry))) (linesAt (now (m .entry)))) ⌝ }
 {
     if rises {
-        matched(m) & path(m) & synchronous(m)
+        if synchronous(m) {
+            if path(m) { matched(m) } else { false }
+        } else {
+            false
+        }
     } else {
         false
     }
@@ -81,7 +104,11 @@ pub fn beyond_limit(m: &[u8; 196], req: bool) -> bool
 pub fn late_byte(m: &[u8; 196], counted: bool) -> bool
     ensures { λ b. ⌜ b ≡ (counted && ((linesAt (now (m .entry))) .io && eqb (getD (now (m .entry)) 17 0) 0 && ltb 0 (getD (now (m .entry)) 23 0))) ⌝ }
 {
-    counted & (((m[16] >> 6) % 2 == 1) & (m[17] == 0) & (0 < m[23]))
+    if counted {
+        ((m[16] >> 6) % 2 == 1) & (m[17] == 0) & (0 < m[23])
+    } else {
+        false
+    }
 }
 
 // BSY or SEL seen, where a bus reset in the same event has taken the chip's own away.

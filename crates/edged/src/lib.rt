@@ -12,6 +12,7 @@ use rules::chip::Edges;
 mod after;
 mod found;
 pub mod last;
+mod single;
 
 // What step B of the next event asks of this one.
 pub fn last_seen(m: &[u8; 196]) -> Before
@@ -66,8 +67,8 @@ pub fn applied_in(m: &mut [u8; 196], g: Edges, was: Before)
     m[20] = g.quiet;
 }
 
-// B on an image: the edges found and applied; whether a REQ went beyond the limit.
-pub fn edges_in(m: &mut [u8; 196], was: Before, ticks: u32) -> bool
+// The rare edges: all are found, then applied.
+fn all_in(m: &mut [u8; 196], was: Before, ticks: u32) -> bool
     requires { ⌜ IsImage (now m) ⌝ }
     ensures { λ b. ⌜ b ≡ (edgesFrom (was .rst) (was .req) (stateAt (now (m .entry))) ticks) .beyond ⌝ }
     ensures { λ _. ⌜ now (m .exit) ≡ imageOf (appliedFrom (edgesFrom (was .rst) (was .req) (stateAt (now (m .entry))) ticks) (was .mismatched) (stateAt (now (m .entry)))) ⌝ }
@@ -75,4 +76,25 @@ pub fn edges_in(m: &mut [u8; 196], was: Before, ticks: u32) -> bool
     let g = edges_of(m, was, ticks);
     applied_in(m, g, was);
     g.beyond
+}
+
+// B on an image: the edges found and applied, the frequent ones by themselves; whether a REQ went beyond the limit.
+pub fn edges_in(m: &mut [u8; 196], was: Before, ticks: u32) -> bool
+    requires { ⌜ IsImage (now m) ⌝ }
+    ensures { λ b. ⌜ b ≡ (edgesFrom (was .rst) (was .req) (stateAt (now (m .entry))) ticks) .beyond ⌝ }
+    ensures { λ _. ⌜ now (m .exit) ≡ imageOf (appliedFrom (edgesFrom (was .rst) (was .req) (stateAt (now (m .entry))) ticks) (was .mismatched) (stateAt (now (m .entry)))) ⌝ }
+{
+    if found::rst_rises(m, was.rst) {
+        return all_in(m, was, ticks);
+    }
+    let quiet = found::quiet_after(m, false, ticks);
+    if (8 <= quiet) & !(8 <= m[20]) {
+        return all_in(m, was, ticks);
+    }
+    if found::checked_bad(m, was.req) {
+        return all_in(m, was, ticks);
+    }
+    m[20] = quiet;
+    single::phase_in(m, was.mismatched);
+    single::req_in(m, was.req)
 }

@@ -1,26 +1,35 @@
 use borrow.Author.Needs.{needs}
-use mathlib.Core.Path.{_≡_, ap, sym, subst, _∙_}
-use Rattle.rules.specs.declared.chip.Edges.{Edges}
-use Rattle.image.specs.Image.{imageOf, stateAt}
-use Rattle.edged.specs.From.{appliedFrom}
-use Rattle.edged.specs.Room.{Room}
-use Rattle.edged.proofs.Room.{room-from}
+use Rattle.edged.proofs.InTurn.{no-reset, quiet-is, no-error, not-free, phased-packed, beyond-is, all-parts}
 use Rattle.edged.proofs.edges_in.Statement.{statement}
 use Rattle.edged.proofs.edges_in.Tie as tie
 
-applied-in-requires : tie.Need-applied-in-requires
-applied-in-requires c κs =
-    let found = c .before in
-    let start = found .before .before in
+req-in-requires : tie.Need-req-in-requires
+req-in-requires c κs =
+    let phased = c .before in
+    let quiet = phased .before .before .before .before .before .before .before in
+    let start = quiet .before .before .before .before .before in
     let a = start .args in
-    (start .pre, subst (λ (g : Edges). Room g ((stateAt (a .m .now)) .transfer)) (sym (found .edges-of .ensures)) (room-from (a .was .rst) (a .was .req) (stateAt (a .m .now)) (a .ticks)))
+    phased-packed (a .m .now) (start .pre .packed) (a .was .mismatched) (quiet .quiet-after .result) (phased .phase-in .ensures)
 
-returns : tie.Need-returns
-returns c =
-    let found = c .before .before in
-    let start = found .before .before in
+returns-4 : tie.Need-returns-4
+returns-4 c =
+    let phased = c .before .before in
+    let error = phased .before .before in
+    let free = error .before .before .before in
+    let quiet = free .before .before in
+    let reset = quiet .before .before in
+    let start = reset .before .before .before in
     let a = start .args in
-    (ap (λ (g : Edges). g .beyond) (found .edges-of .ensures), c .applied-in .ensures ∙ ap (λ (g : Edges). imageOf (appliedFrom g (a .was .mismatched) (stateAt (a .m .now)))) (found .edges-of .ensures))
+    let m = a .m .now in
+    let w = a .was in
+    let off = no-reset m (w .rst) (w .req) (a .ticks) (reset .before .rst-rises .ensures) (reset .if1 .left) in
+    let q = quiet .quiet-after .result in
+    let is = quiet-is m (w .rst) (w .req) (a .ticks) off (quiet .quiet-after .ensures) in
+    let then = phased .phase-in .ensures in
+    (
+      beyond-is m (start .pre .packed) (w .mismatched) q then (w .rst) (w .req) (a .ticks) is (c .req-in .ensures .0),
+      all-parts m (start .pre .packed) (w .mismatched) q then (w .rst) (w .req) (a .ticks) is off (no-error m (w .rst) (w .req) (a .ticks) (error .before .checked-bad .ensures) (error .if3 .left)) (not-free m (w .rst) (w .req) (a .ticks) is (free .if2 .left)) (c .req-in .ensures .1)
+    )
 
 pub edges-in-spec : {M : Type 1} → statement M
-edges-in-spec = tie.close (tie.spec (λ c κs. search needs) applied-in-requires returns)
+edges-in-spec = tie.close (tie.spec (λ c κs. search needs) (λ c κs. search needs) (λ c. search needs) (λ c κs. search needs) (λ c. search needs) (λ c κs. search needs) (λ c. search needs) (λ c κs. search needs) (λ c κs. search needs) (λ c. search needs) (λ c. search needs) (λ c κs. search needs) req-in-requires returns-4)
