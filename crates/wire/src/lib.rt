@@ -1,9 +1,11 @@
 // Document 01, "Records": event records to events, answers to their sixteen bytes, by shifts and masks.
 ghost use mathlib.Core.Path.{_≡_};
-ghost use Prim.Native.Nat.{_+_, _*_, _%_, _<_};
+ghost use mathlib.Core.Bool.{cond};
+ghost use Prim.Native.Nat.{_+_, _*_, _%_};
 ghost use lib.ListN.{length};
 ghost use Rattle.rules.specs.Numbers.{one};
-ghost use Rattle.rules.specs.Records.{linesOf, payloadOf, payloadLimit, offsetLimit, eventOf, fieldsOf, decode};
+ghost use Rattle.rules.specs.Records.{linesOf, payloadOf, fieldsOf, decode};
+ghost use Rattle.rules.specs.declared.records.Decoded.the-variants.{Well, Ill};
 ghost use Rattle.rules.specs.Codes.{numberOf, refusedValue};
 ghost use Rattle.rules.specs.Answers.{answerBytes};
 ghost use Rattle.wire.specs.Written.{written};
@@ -43,66 +45,62 @@ fn lines_of(p: u32) -> Lines
     }
 }
 
-// Unused bits are 0, and kind 7 is bad: the payload of a kind is below this.
-fn payload_limit(kind: u8) -> u32
-    ensures { λ r. ⌜ r ≡ payloadLimit kind ⌝ }
+// Unused bits are 0: an event where the test passes.
+fn well_if(t: bool, e: Event) -> Decoded
+    ensures { λ r. ⌜ r ≡ cond t (Well e) Ill ⌝ }
 {
-    match kind {
-        0 => 1,
-        1 => 256,
-        2 => 1,
-        3 => 65536,
-        4 => 1,
-        5 => 262144,
-        6 => 16777216,
-        _ => 0,
-    }
+    if t { Decoded::Well(e) } else { Decoded::Ill }
 }
 
-// The offset is 0 except in kinds 1 and 2: it is below this.
-fn offset_limit(kind: u8) -> u8
-    ensures { λ r. ⌜ r ≡ offsetLimit kind ⌝ }
+// Kind 1: a register write.
+fn write_of(offset: u8, p: u32) -> Decoded
+    ensures { λ r. ⌜ r ≡ fieldsOf 1 offset p ⌝ }
 {
-    match kind {
-        0 => 1,
-        1 => 32,
-        2 => 32,
-        _ => 1,
-    }
-}
-
-// The table of kinds.
-fn event_of(kind: u8, offset: u8, p: u32) -> Decoded
-    requires { ⌜ p < payloadLimit kind ⌝ }
-    ensures { λ r. ⌜ r ≡ eventOf kind offset p ⌝ }
-{
-    match kind {
-        0 => Decoded::Well(Event::PowerReset),
-        1 => Decoded::Well(Event::Write {
+    if (p < 256) & (offset < 32) {
+        Decoded::Well(Event::Write {
             offset: offset,
             value: p as u8,
-        }),
-        2 => Decoded::Well(Event::Read { offset: offset }),
-        3 => Decoded::Well(Event::WordWrite(p as u16)),
-        4 => Decoded::Well(Event::WordRead),
-        5 => Decoded::Well(Event::Drive(lines_of(p))),
-        6 => Decoded::Well(Event::Ticks(p)),
-        _ => Decoded::Ill,
+        })
+    } else {
+        Decoded::Ill
     }
 }
 
-// An event by its three fields.
+// Kind 3: a word write at 356h.
+fn word_of(offset: u8, p: u32) -> Decoded
+    ensures { λ r. ⌜ r ≡ fieldsOf 3 offset p ⌝ }
+{
+    if (p < 65536) & (offset < 1) {
+        Decoded::Well(Event::WordWrite(p as u16))
+    } else {
+        Decoded::Ill
+    }
+}
+
+// Kind 5: lines others drive.
+fn drive_of(offset: u8, p: u32) -> Decoded
+    ensures { λ r. ⌜ r ≡ fieldsOf 5 offset p ⌝ }
+{
+    if (p < 262144) & (offset < 1) {
+        Decoded::Well(Event::Drive(lines_of(p)))
+    } else {
+        Decoded::Ill
+    }
+}
+
+// An event by its three fields: "Unused bits, and the offset except in kinds 1 and 2, are 0. Kind 7 is bad."
 fn fields(kind: u8, offset: u8, p: u32) -> Decoded
     ensures { λ r. ⌜ r ≡ fieldsOf kind offset p ⌝ }
 {
-    if p < payload_limit(kind) {
-        if offset < offset_limit(kind) {
-            event_of(kind, offset, p)
-        } else {
-            Decoded::Ill
-        }
-    } else {
-        Decoded::Ill
+    match kind {
+        0 => well_if((p < 1) & (offset < 1), Event::PowerReset),
+        1 => write_of(offset, p),
+        2 => well_if((p < 1) & (offset < 32), Event::Read { offset: offset }),
+        3 => word_of(offset, p),
+        4 => well_if((p < 1) & (offset < 1), Event::WordRead),
+        5 => drive_of(offset, p),
+        6 => well_if((p < 16777216) & (offset < 1), Event::Ticks(p)),
+        _ => Decoded::Ill,
     }
 }
 
