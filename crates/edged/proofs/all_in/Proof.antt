@@ -12,19 +12,17 @@ applied-in-requires : tie.Need-applied-in-requires
 applied-in-requires c κs =
     let start = c .before .before .before in
     let a = start .args in
-    let s = stateAt (a .m .now) in
-    (
+    let s = stateAt (a .m .now) in (
       start .pre,
-      subst (λ (g : Edges). Room g (s .transfer)) (sym (c .before .edges-of .ensures)) (room-from (a .was .rst) (a .was .req) s (a .ticks))
+      subst (λ (g : Edges). Room g (s .transfer)) (sym (c .before .edges-of .ensures)) (room-from (a .was .rst) (a .was .req) s (a .ticks)),
     )
 
 returns : tie.Need-returns
 returns c =
     let found = c .before .before in
-    let a = found .before .before .args in
-    (
+    let a = found .before .before .args in (
       ap (λ (g : Edges). g .beyond) (found .edges-of .ensures),
-      c .applied-in .ensures ∙ ap (λ (g : Edges). imageOf (appliedFrom g (a .was .mismatched) (stateAt (a .m .now)))) (found .edges-of .ensures)
+      c .applied-in .ensures ∙ ap (λ (g : Edges). imageOf (appliedFrom g (a .was .mismatched) (stateAt (a .m .now)))) (found .edges-of .ensures),
     )
 
 pub all-in-spec : {M : Type 1} → statement M

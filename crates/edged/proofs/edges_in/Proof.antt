@@ -25,10 +25,9 @@ returns-4 c =
     let off = no-reset m (w .rst) (w .req) (a .ticks) (reset .before .rst-rises .ensures) (reset .if1 .left) in
     let q = quiet .quiet-after .result in
     let is = quiet-is m (w .rst) (w .req) (a .ticks) off (quiet .quiet-after .ensures) in
-    let then = phased .phase-in .ensures in
-    (
+    let then = phased .phase-in .ensures in (
       beyond-is m (start .pre .packed) (w .mismatched) q then (w .rst) (w .req) (a .ticks) is (c .req-in .ensures .0),
-      all-parts m (start .pre .packed) (w .mismatched) q then (w .rst) (w .req) (a .ticks) is off (no-error m (w .rst) (w .req) (a .ticks) (error .before .checked-bad .ensures) (error .if3 .left)) (not-free m (w .rst) (w .req) (a .ticks) is (free .if2 .left)) (c .req-in .ensures .1)
+      all-parts m (start .pre .packed) (w .mismatched) q then (w .rst) (w .req) (a .ticks) is off (no-error m (w .rst) (w .req) (a .ticks) (error .before .checked-bad .ensures) (error .if3 .left)) (not-free m (w .rst) (w .req) (a .ticks) is (free .if2 .left)) (c .req-in .ensures .1),
     )
 
 pub edges-in-spec : {M : Type 1} → statement M

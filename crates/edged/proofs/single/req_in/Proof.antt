@@ -69,10 +69,9 @@ returns-4 c =
     let off : w ≡ false = other-than (s .lines .req) w (tested .before .if1 .left) ∙ ap not on in
     let none : rstSeen (s .registers) (s .lines) ≡ false = sym (reset .before .rst-seen .ensures) ∙ reset .if3 .left in
     let rises : reqRisesFrom w s ≡ true = rw (none, on, off) in
-    let again = status-again (start .pre) (raised .raised-in .ensures s (start .pre)) in
-    (
+    let again = status-again (start .pre) (raised .raised-in .ensures s (start .pre)) in (
       c .risen .ensures .0 ∙ ap (λ (x : State). callB x && beyondLimit x) again ∙ risen-beyond w s rises,
-      c .risen .ensures .1 ∙ ap (λ (x : State). imageOf (risenB (callB x) x)) again ∙ ap imageOf (req-risen w s rises (rw off))
+      c .risen .ensures .1 ∙ ap (λ (x : State). imageOf (risenB (callB x) x)) again ∙ ap imageOf (req-risen w s rises (rw off)),
     )
 
 pub req-in-spec : {M : Type 1} → statement M

@@ -55,10 +55,9 @@ returns-3 c =
     let m = start .args .m .now in
     let s = stateAt m in
     let on : callB s ≡ true = sym (called .before .synchronous-req .ensures) ∙ not-false _ (called .if1 .left) in
-    let below : beyondLimit s ≡ false = sym (beyond-at m (start .pre) (asked .beyond-limit .ensures)) ∙ tested .if2 .left in
-    (
+    let below : beyondLimit s ≡ false = sym (beyond-at m (start .pre) (asked .beyond-limit .ensures)) ∙ tested .if2 .left in (
       rw (below, and-false),
-      offset-placed _ (inboundB true s) refl (c .inbound-in .ensures s (start .pre)) ∙ ap imageOf (counted (callB s) s (rw (on, below)))
+      offset-placed _ (inboundB true s) refl (c .inbound-in .ensures s (start .pre)) ∙ ap imageOf (counted (callB s) s (rw (on, below))),
     )
 
 pub risen-spec : {M : Type 1} → statement M
