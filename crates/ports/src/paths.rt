@@ -74,7 +74,7 @@ fn counted_in(m: &mut [u8; 196], acked: bool)
     }
 }
 
-pub fn write_in(m: &mut [u8; 196], acked: bool, offset: u8, value: u8)
+fn write_in(m: &mut [u8; 196], acked: bool, offset: u8, value: u8)
     requires { ⌜ Imaged (now m) ⌝ }
     requires { ⌜ RoomAt (now m) (Write offset value) ⌝ }
     ensures { λ _. ⌜ ((s : State) → Placed s → now (m .entry) ≡ imageOf s → now (m .exit) ≡ imageOf (withTransfer (transferA acked (s .transfer) (Write offset value)) s)) ⌝ }
@@ -85,7 +85,7 @@ pub fn write_in(m: &mut [u8; 196], acked: bool, offset: u8, value: u8)
     ack_turned(m, acked);
 }
 
-pub fn read_in(m: &mut [u8; 196], acked: bool, offset: u8)
+fn read_in(m: &mut [u8; 196], acked: bool, offset: u8)
     requires { ⌜ Imaged (now m) ⌝ }
     ensures { λ _. ⌜ ((s : State) → Placed s → now (m .entry) ≡ imageOf s → now (m .exit) ≡ imageOf (withTransfer (transferA acked (s .transfer) (Read offset)) s)) ⌝ }
 {

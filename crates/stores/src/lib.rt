@@ -16,7 +16,7 @@ use rules::records::Event;
 use rules::records::Lines;
 
 // The three bytes of the lines.
-pub fn lines_stored(m: &mut [u8; 196], lines: Lines)
+fn lines_stored(m: &mut [u8; 196], lines: Lines)
     requires { ⌜ IsImage (now m) ⌝ }
     ensures { λ _. ⌜ now (m .exit) ≡ imageOf (withLines lines (stateAt (now (m .entry)))) ⌝ }
 {

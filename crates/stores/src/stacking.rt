@@ -60,7 +60,7 @@ pub fn stack_written(m: &mut [u8; 196], offset: u8, value: u8)
 }
 
 // A read: of 35Dh.
-pub fn stack_read(m: &mut [u8; 196], offset: u8)
+fn stack_read(m: &mut [u8; 196], offset: u8)
     requires { ⌜ IsImage (now m) ⌝ }
     ensures { λ _. ⌜ now (m .exit) ≡ imageOf (withStack (stackA ((stateAt (now (m .entry))) .registers .dmacntrl1 .enstk32) ((stateAt (now (m .entry))) .stack) (Read offset)) (stateAt (now (m .entry)))) ⌝ }
 {
