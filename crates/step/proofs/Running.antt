@@ -1,24 +1,19 @@
 -- A run, one record more at a time.
 use mathlib.Core.Path.{_≡_, refl, ap, sym, _∙_}
 use mathlib.Core.List.{List, [], _∷_, _++_, append-assoc, append-nil}
-use Prim.Native.Nat.{ℕ, zero, suc, _+_, _*_, _-_, _≤_, min}
+use Prim.Native.Nat.{ℕ, zero, suc, _+_, _*_}
 use native.Mathlib.Omega.{arith}
 use native.Mathlib.Numerals.{add-one}
-use lib.ListN.{length, take, drop, length-append, length-drop}
+use lib.ListN.{length, take, drop, length-append}
 use lib.Seq.{drop-drop, take-at, drop-at}
 use Rattle.rules.specs.State.{State}
 use Rattle.rules.specs.Chips.{view, chipOf}
 use Rattle.rules.specs.Ranges.{InRange, Tidy}
-use Rattle.rules.specs.Answers.{answerOf, answerBytes}
 use Rattle.rules.specs.Step.{step, answer, after, answers}
 use Rattle.rules.specs.declared.chip.Chip.{Chip}
-use Rattle.rules.proofs.Ranges.{StepFits, step-fits, after-fits}
-use Rattle.laws.proofs.Lists.{take-clamped}
-use Rattle.reads.specs.Answering.{answerWith}
-use Rattle.step.specs.declared.event.Outcome.{Outcome}
-use Rattle.step.specs.Outcomes.{outcomeOf}
+use Rattle.rules.proofs.Ranges.{step-fits, after-fits}
 use Rattle.step.specs.Runs.{recordAt, recordsOf, joined, IsTurn}
-use Rattle.step.proofs.Answering.{outcome-chip, outcome-tidy, outcome-answer, answer-sixteen}
+use Rattle.step.proofs.Answering.{answer-sixteen}
 use Rattle.step.proofs.Parts.{tidy-of, view-of}
 
 records-next : (i : ℕ) (l : List ℕ) → recordsOf (suc i) l ≡ recordsOf i l ++ (recordAt i l ∷ [])
@@ -53,32 +48,6 @@ joined-length s (x ∷ xs) i =
     let a : length (answer s x) ≡ 16 = answer-sixteen s x i in
     let m : length (joined (answers ((step s x) .state) xs)) ≡ 16 * length xs = joined-length ((step s x) .state) xs (step-fits s x i .state) in
     simp length-append (omega arith)
-
--- the last record ends where the slice does
-record-part : (i n : ℕ) (l : List ℕ) → n ≡ min (4 * i + 4) (length l) → take (n - 4 * i) (drop (4 * i) l) ≡ recordAt i l
-record-part i n l e =
-    let d : length (drop (4 * i) l) ≡ length l - 4 * i = length-drop (4 * i) l in
-    take-clamped (length l - 4 * i) 4 (n - 4 * i) (drop (4 * i) l) d (omega arith)
-
--- one record, stepped and answered
-module _ (c : Chip) (t : Tidy c) (i n : ℕ) (l : List ℕ) (e : n ≡ min (4 * i + 4) (length l)) (o : Outcome) (p : o ≡ outcomeOf (step (view c) (take (n - 4 * i) (drop (4 * i) l)))) where
-  turned-fits : StepFits (step (view c) (recordAt i l))
-  turned-fits = step-fits (view c) (recordAt i l) (t .range)
-
-  turned-outcome : o ≡ outcomeOf (step (view c) (recordAt i l))
-  turned-outcome = p ∙ ap (λ (r : List ℕ). outcomeOf (step (view c) r)) (record-part i n l e)
-
-  pub turned-tidy : Tidy (o .chip)
-  turned-tidy = outcome-tidy (step (view c) (recordAt i l)) o turned-fits turned-outcome
-
-  pub turned : (before b buffer : List ℕ) → b ≡ answerBytes (answerWith (view (o .chip)) (o .code) (o .value) (o .moves) (o .acks) (o .sent)) → buffer ≡ (take (16 * i) before ++ b) ++ drop (16 * i + 16) before → IsTurn c l before i buffer (o .chip)
-  unfolding answer
-  turned before b buffer q u =
-      let a : b ≡ answerBytes (answerOf (step (view c) (recordAt i l))) = q ∙ outcome-answer (step (view c) (recordAt i l)) o turned-fits turned-outcome in
-      record {
-        chip = outcome-chip (step (view c) (recordAt i l)) o turned-fits turned-outcome;
-        answers = u ∙ ap (λ (r : List ℕ). (take (16 * i) before ++ r) ++ drop (16 * i + 16) before) a;
-      }
 
 -- the chip and the answers after i records, and after one more
 module _ (s : State) (f : InRange s) (l o : List ℕ) (i : ℕ) (c : Chip) (out : List ℕ) (e : c ≡ chipOf (after s (recordsOf i l))) (p : out ≡ joined (answers s (recordsOf i l)) ++ drop (16 * i) o) where

@@ -1,10 +1,9 @@
-// The step: a chip by value, a record and a lent answer buffer; and a run of records.
+// The step: a chip by value, a record and a lent answer buffer.
 ghost use Rattle.step.specs.Outcomes.{IsStep};
 
 pub mod answers;
 pub mod event;
 pub mod reset;
-pub mod run;
 
 use rules::chip::Chip;
 use rules::codes::Code;
