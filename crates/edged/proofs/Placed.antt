@@ -11,7 +11,7 @@ use lib.Seq.{set-append-left}
 use Rattle.rules.specs.Numbers.{one, padded}
 use Rattle.rules.specs.Registers.{scsiseqOf, scsiseqByte, sxfrctl0Of, sxfrctl0Byte, scsisigOf}
 use Rattle.rules.specs.State.{State}
-use Rattle.rules.specs.StepB.{scsiseqB, sxfrctl0B, scsisigB, registersB, transferB, statusB}
+use Rattle.rules.specs.StepB.{scsiseqB, sxfrctl0B, scsisigB, registersB, transferB}
 use Rattle.rules.specs.declared.registers.Scsiseq.{Scsiseq}
 use Rattle.rules.specs.declared.registers.Sxfrctl0.{Sxfrctl0}
 use Rattle.rules.specs.declared.registers.Scsisig.{Scsisig}

@@ -1,13 +1,13 @@
 // The frequent edges, each by itself, in place.
 ghost use mathlib.Core.Path.{_≡_};
-ghost use mathlib.Core.Bool.{true, false, not, _&&_};
+ghost use mathlib.Core.Bool.{true, false, _&&_};
 ghost use Prim.Native.Nat.{_<_};
 ghost use lib.ListN.{getD};
 ghost use Rattle.rules.specs.State.{State};
-ghost use Rattle.rules.specs.StepB.{beyondLimit, lateByte};
+ghost use Rattle.rules.specs.StepB.{beyondLimit};
 ghost use Rattle.image.specs.Image.{imageOf, stateAt, linesAt, withStatus};
 ghost use Rattle.edged.specs.From.{synchronousReqFrom};
-ghost use Rattle.edged.specs.Frequent.{raisedB, phaseB, inboundB, callB, risenB, releasedB, reqB};
+ghost use Rattle.edged.specs.Frequent.{raisedB, phaseB, inboundB, callB, risenB, reqB};
 use crate::after::byte_stored;
 use crate::found::beyond_limit;
 use crate::found::synchronous_req;
