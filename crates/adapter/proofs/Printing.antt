@@ -11,10 +11,7 @@ use Rattle.rules.specs.declared.chip.Chip.{Chip}
 use Rattle.lines.specs.Hex as hex
 use Rattle.step.specs.declared.Ran.{Ran}
 use Rattle.step.specs.Runs.{IsRun, recordsOf, steppedIn, recordsIn, joined}
-use Rattle.adapter.specs.Texts.{stepped, printed, IsPrinted}
-
-abbrev answersOf : Chip → ℕ → List ℕ → List ℕ
-answersOf c n bytes = joined (answers (view c) (recordsOf n bytes))
+use Rattle.adapter.specs.Texts.{stepped, answered, printed, IsPrinted}
 
 module _ (c : Chip) (bytes before buffer : List ℕ) (ran : Ran) (r : IsRun c bytes before buffer ran) (h : length before ≡ 16400) (k : length buffer ≡ 16400) where
   stepped-is : steppedIn bytes before ≡ stepped bytes
@@ -23,23 +20,23 @@ module _ (c : Chip) (bytes before buffer : List ℕ) (ran : Ran) (r : IsRun c by
   count-is : ran .count ≡ stepped bytes
   count-is = r .count ∙ stepped-is
 
-  buffer-is : buffer ≡ answersOf c (stepped bytes) bytes ++ drop (16 * stepped bytes) before
-  buffer-is = r .answers ∙ ap (λ (n : ℕ). answersOf c n bytes ++ drop (16 * n) before) stepped-is
+  pub buffer-is : buffer ≡ answered c bytes ++ drop (16 * stepped bytes) before
+  buffer-is = r .answers ∙ ap (λ (n : ℕ). joined (answers (view c) (recordsOf n bytes)) ++ drop (16 * n) before) stepped-is
 
   -- what is behind them is as long as it was, so they fill what is before it
-  answers-length : length (answersOf c (stepped bytes) bytes) ≡ 16 * stepped bytes
+  answers-length : length (answered c bytes) ≡ 16 * stepped bytes
   answers-length =
-      let e : length buffer ≡ length (answersOf c (stepped bytes) bytes) + length (drop (16 * stepped bytes) before) =
-      ap length buffer-is ∙ length-append (answersOf c (stepped bytes) bytes) (drop (16 * stepped bytes) before) in
+      let e : length buffer ≡ length (answered c bytes) + length (drop (16 * stepped bytes) before) =
+      ap length buffer-is ∙ length-append (answered c bytes) (drop (16 * stepped bytes) before) in
       let d : length (drop (16 * stepped bytes) before) ≡ length before - 16 * stepped bytes = length-drop (16 * stepped bytes) before in
       let m : stepped bytes ≤ 1025 = omega arith in
       omega arith
 
-  front-is : take (16 * ran .count) buffer ≡ answersOf c (stepped bytes) bytes
+  front-is : take (16 * ran .count) buffer ≡ answered c bytes
   front-is =
       ap (λ (n : ℕ). take (16 * n) buffer) count-is
       ∙ ap (λ (l : List ℕ). take (16 * stepped bytes) l) buffer-is
-      ∙ take-at (answersOf c (stepped bytes) bytes) (drop (16 * stepped bytes) before) (16 * stepped bytes) answers-length
+      ∙ take-at (answered c bytes) (drop (16 * stepped bytes) before) (16 * stepped bytes) answers-length
 
   pub front-length : 16 * ran .count ≡ length (take (16 * ran .count) buffer)
   front-length = ap (λ (n : ℕ). 16 * n) count-is ∙ sym answers-length ∙ sym (ap length front-is)

@@ -19,10 +19,14 @@ stepped bytes = min (recordsIn bytes) 1025
 abbrev pub printed : List ℕ → List ℕ → ℕ
 printed bytes before = min (stepped bytes) (length before / 33)
 
+-- the answers of the records stepped
+abbrev pub answered : Chip → List ℕ → List ℕ
+answered c bytes = joined (answers (view c) (recordsOf (stepped bytes) bytes))
+
 pub record IsPrinted (c : Chip) (bytes before now : List ℕ) (r : Printed) : Type 0 where
   pub chip : r .chip ≡ chipOf (after (view c) (recordsOf (stepped bytes) bytes))
   pub size : r .size ≡ 33 * printed bytes before
-  pub text : now ≡ linesOf (printed bytes before) (joined (answers (view c) (recordsOf (stepped bytes) bytes))) ++ drop (r .size) before
+  pub text : now ≡ linesOf (printed bytes before) (answered c bytes) ++ drop (r .size) before
 
 -- how many bytes of those held wait for the next read: the piece of a record, and none at the end, where it is a record
 abbrev pub leftOver : ℕ → Bool → ℕ

@@ -1,8 +1,9 @@
 // Event records on standard input as raw bytes, and a line of hex digits for each answer on standard output.
 ghost use mathlib.Core.Path.{_≡_};
-ghost use Prim.Native.Nat.{_≤_};
-ghost use lib.ListN.{length, getD};
-ghost use Rattle.adapter.specs.Texts.{IsPrinted, IsReceived, leftOver, nothing, tailFrom};
+ghost use mathlib.Core.List.{_++_};
+ghost use Prim.Native.Nat.{_*_, _≤_};
+ghost use lib.ListN.{drop, length, getD};
+ghost use Rattle.adapter.specs.Texts.{IsPrinted, IsReceived, answered, leftOver, nothing, stepped, tailFrom};
 use rules::chip::Chip;
 
 // The chip after some records, and the number of bytes of their lines.
@@ -25,12 +26,13 @@ pub struct Turned {
     pub more: bool,
 }
 
-// The lines of the answers to the records, at the front of text.
-fn print(c: Chip, records: &[u8], text: &mut [u8]) -> Printed
+// The answers to the records at the front of answers, and their lines at the front of text.
+fn print(c: Chip, records: &[u8], answers: &mut [u8], text: &mut [u8]) -> Printed
+    requires { ⌜ length (now answers) ≡ 16400 ⌝ }
     ensures { λ r. ⌜ IsPrinted c (now (records .entry)) (now (text .entry)) (now (text .exit)) r ⌝ }
+    ensures { λ _. ⌜ now (answers .exit) ≡ answered c (now (records .entry)) ++ drop (16 * stepped (now (records .entry))) (now (answers .entry)) ⌝ }
 {
-    let mut answers = [0u8; 16400];
-    let ran = turns::run::run(c, records, &mut answers);
+    let ran = turns::run::run(c, records, answers);
     let size = lines::print(&answers[..16 * ran.count], text);
     let chip = ran.chip;
     Printed {
@@ -107,24 +109,32 @@ fn send(lines: &[u8]) -> bool {
     is_written
 }
 
-// One read, so that answers come as soon as their records do.
-fn turn(c: Chip, left: [u8; 4], kept: usize) -> Turned
+// One read, so that answers come as soon as their records do. Nothing is read of what an earlier turn left in the arrays.
+fn turn(
+    c: Chip,
+    left: [u8; 4],
+    kept: usize,
+    input: &mut [u8],
+    answers: &mut [u8],
+    text: &mut [u8],
+) -> Turned
     requires { ⌜ kept ≤ 3 ⌝ }
+    requires { ⌜ length (now input) ≡ 4100 ⌝ }
+    requires { ⌜ length (now answers) ≡ 16400 ⌝ }
+    requires { ⌜ length (now text) ≡ 33825 ⌝ }
     ensures { λ r. ⌜ r .kept ≤ 3 ⌝ }
 {
-    let mut input = [0u8; 4100];
     input[0] = left[0];
     input[1] = left[1];
     input[2] = left[2];
-    let received = receive(&mut input, kept);
+    let received = receive(input, kept);
     let is_end = received.is_end;
     let held = received.held;
     let rest = left_over(held, is_end);
     let end = held - rest;
-    let mut text = [0u8; 33825];
-    let p = print(c, &input[..end], &mut text);
+    let p = print(c, &input[..end], answers, text);
     let is_written = send(&text[..p.size]);
-    let left = tail(&input, end);
+    let left = tail(&input[..held], end);
     let chip = p.chip;
     Turned {
         chip: chip,
@@ -140,8 +150,18 @@ fn main() {
     let mut kept = 0usize;
     let mut turns = u64::MAX;
     let mut more = true;
+    let mut input = [0u8; 4100];
+    let mut answers = [0u8; 16400];
+    let mut text = [0u8; 33825];
     while turns > 0 && more {
-        let t = turn(chip, left, kept);
+        let t = turn(
+            chip,
+            left,
+            kept,
+            &mut input,
+            &mut answers,
+            &mut text,
+        );
         chip = t.chip;
         left = t.left;
         kept = t.kept;
