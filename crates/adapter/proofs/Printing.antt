@@ -20,7 +20,7 @@ module _ (c : Chip) (bytes before buffer : List ℕ) (ran : Ran) (r : IsRun c by
   count-is : ran .count ≡ stepped bytes
   count-is = r .count ∙ stepped-is
 
-  pub buffer-is : buffer ≡ answered c bytes ++ drop (16 * stepped bytes) before
+  buffer-is : buffer ≡ answered c bytes ++ drop (16 * stepped bytes) before
   buffer-is = r .answers ∙ ap (λ (n : ℕ). joined (answers (view c) (recordsOf n bytes)) ++ drop (16 * n) before) stepped-is
 
   -- what is behind them is as long as it was, so they fill what is before it
@@ -49,12 +49,14 @@ module _ (c : Chip) (bytes before buffer : List ℕ) (ran : Ran) (r : IsRun c by
         let d : length (take (16 * ran .count) buffer) / 16 ≡ stepped bytes = omega arith in
         ap (λ (n : ℕ). min n (length old / 33)) d
 
-    pub lines-printed : IsPrinted c bytes old text (record { chip = ran .chip; size = size })
-    lines-printed =
-        record {
-          chip = r .chip ∙ ap (λ (n : ℕ). chipOf (after (view c) (recordsOf n bytes))) stepped-is;
-          size = p .count ∙ ap (λ (n : ℕ). 33 * n) lines-in;
-          text = p .text
-              ∙ ap (λ (n : ℕ). hex.linesOf n (take (16 * ran .count) buffer) ++ drop size old) lines-in
-              ∙ ap (λ (l : List ℕ). hex.linesOf (printed bytes old) l ++ drop size old) front-is;
-        }
+    pub lines-printed : IsPrinted c bytes old text (record { chip = ran .chip; size = size }) × (buffer ≡ answered c bytes ++ drop (16 * stepped bytes) before)
+    lines-printed = (
+      record {
+        chip = r .chip ∙ ap (λ (n : ℕ). chipOf (after (view c) (recordsOf n bytes))) stepped-is;
+        size = p .count ∙ ap (λ (n : ℕ). 33 * n) lines-in;
+        text = p .text
+            ∙ ap (λ (n : ℕ). hex.linesOf n (take (16 * ran .count) buffer) ++ drop size old) lines-in
+            ∙ ap (λ (l : List ℕ). hex.linesOf (printed bytes old) l ++ drop size old) front-is;
+      },
+      buffer-is,
+    )

@@ -154,14 +154,7 @@ fn main() {
     let mut answers = [0u8; 16400];
     let mut text = [0u8; 33825];
     while turns > 0 && more {
-        let t = turn(
-            chip,
-            left,
-            kept,
-            &mut input,
-            &mut answers,
-            &mut text,
-        );
+        let t = turn(chip, left, kept, &mut input, &mut answers, &mut text);
         chip = t.chip;
         left = t.left;
         kept = t.kept;

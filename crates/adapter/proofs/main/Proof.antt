@@ -1,18 +1,32 @@
--- Nothing says that the input ends: the turns are counted down.
-use Prim.Native.Nat.{_≤_}
+-- Nothing says that the input ends: the turns are counted down. The arrays stay as long as they are made.
+use Prim.Native.Nat.{ℕ, _≤_}
+use mathlib.Core.Path.{_≡_, _∙_}
 use native.Mathlib.Omega.{arith}
 use borrow.Author.Needs.{needs}
+use lib.ListN.{length, length-replicate}
 use Rattle.adapter.proofs.main.Statement.{statement}
 use Rattle.adapter.proofs.main.Tie as tie
 
 abbrev Inv-loop : tie.InvT-loop
-Inv-loop chip₀ left₀ kept₀ turns₀ more₀ input₀ answers₀ text₀ chip left kept turns more input answers text = kept ≤ 3
+Inv-loop chip₀ left₀ kept₀ turns₀ more₀ input₀ answers₀ text₀ chip left kept turns more input answers text =
+    (kept ≤ 3) × (length input ≡ 4100) × (length answers ≡ 16400) × (length text ≡ 33825)
 
 abbrev μ-loop : tie.MeasureT-loop
 μ-loop chip₀ left₀ kept₀ turns₀ more₀ input₀ answers₀ text₀ chip left kept turns more input answers text = turns
 
+loop-holds : tie.Need-loop-holds Inv-loop μ-loop
+loop-holds c = (omega arith, length-replicate {A = ℕ} _ 0, length-replicate {A = ℕ} _ 0, length-replicate {A = ℕ} _ 0)
+
 loop-again : tie.Need-loop-again Inv-loop μ-loop
-loop-again c = c .before .before .before .before .before .turn .ensures
+loop-again c =
+    let turned = c .before .before .before .before .before in
+    let turn = turned .turn in
+    let l = turned .before .before .before .before .before .before .loop in (
+      turn .ensures,
+      turn .kept .1 .1 .1 .0 ∙ l .inv .1,
+      turn .kept .1 .1 .1 .1 .0 ∙ l .inv .2,
+      turn .kept .1 .1 .1 .1 .1 .0 ∙ l .inv .3,
+    )
 
 pub main-spec : {M : Type 1} → statement M
 main-spec =
@@ -21,7 +35,7 @@ main-spec =
     Inv-loop
     μ-loop
     (λ c κs. search needs)
-    (λ c. search needs)
+    loop-holds
     (λ c. search needs)
     (λ c. search needs)
     (λ c. search needs)

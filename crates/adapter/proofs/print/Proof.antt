@@ -1,6 +1,6 @@
 use mathlib.Core.Path.{_∙_}
 use borrow.Author.Needs.{needs}
-use Rattle.adapter.proofs.Printing.{buffer-is, front-length, lines-printed}
+use Rattle.adapter.proofs.Printing.{front-length, lines-printed}
 use Rattle.adapter.proofs.print.Statement.{statement}
 use Rattle.adapter.proofs.print.Tie as tie
 
@@ -20,11 +20,8 @@ returns c =
     let a = start .args in
     let run = ran .run in
     let print = done .print in
-    (
-      lines-printed (a .c) (a .records .now) (a .answers .now) (run .last .1 .1 .0) (run .result) (run .ensures) (start .pre) (run .kept .1 .1 .0 ∙ start .pre)
-          (a .text .now) (print .last .1 .0) (print .result) (print .ensures),
-      buffer-is (a .c) (a .records .now) (a .answers .now) (run .last .1 .1 .0) (run .result) (run .ensures) (start .pre) (run .kept .1 .1 .0 ∙ start .pre),
-    )
+    lines-printed (a .c) (a .records .now) (a .answers .now) (run .last .1 .1 .0) (run .result) (run .ensures) (start .pre) (run .kept .1 .1 .0 ∙ start .pre)
+    (a .text .now) (print .last .1 .0) (print .result) (print .ensures)
 
 pub print-spec : {M : Type 1} → statement M
 print-spec =
