@@ -6,3 +6,4 @@ pub mod AppliedIn
 pub mod Room
 pub mod Frequent
 pub mod InTurn
+pub mod Still

@@ -3,3 +3,4 @@ pub mod Inbound
 pub mod From
 pub mod Parts
 pub mod Frequent
+pub mod Since

@@ -5,3 +5,11 @@ pub struct Before {
     pub req: bool,
     pub mismatched: bool,
 }
+
+// The bytes that it is read off: 340h, 343h, RST, and the lines in the order of 343h.
+pub struct Seen {
+    pub seq: u8,
+    pub sig: u8,
+    pub upper: u8,
+    pub control: u8,
+}

@@ -12,6 +12,7 @@ use rules::chip::Edges;
 mod after;
 mod found;
 pub mod last;
+pub mod since;
 mod single;
 
 // What step B of the next event asks of this one.

@@ -23,7 +23,8 @@ use Rattle.image.specs.Image.{imageOf}
 use Rattle.step.proofs.Parts.{access-done, access-refused}
 use Rattle.acted.specs.declared.Acted.{Acted}
 use Rattle.acted.specs.Acting.{Acts}
-use Rattle.edged.specs.declared.last.Before.{Before}
+use Rattle.edged.specs.declared.last.Seen.{Seen}
+use Rattle.edged.specs.Since.{rstOf, reqOf, mismatchedOf}
 use Rattle.turns.specs.declared.event.Outcome.{Outcome}
 use Rattle.turns.specs.Given.{Leaves, endedAs}
 use Rattle.turns.specs.Opening.{Ends, OpensEvent, Opens, Ready}
@@ -77,12 +78,12 @@ module _ (s : State) {m : List ℕ} (a : Acted) where
   opens-leaves Ill x h = ends-leaves s Malformed 0 x
 
 -- what B, C and D take up, and that they give the step
-pub record Onward (x : Stepped) (m : List ℕ) (was : Before) (before0 before1 ticks value : ℕ) : Type 0 where
-  pub ready : Ready m was before0 before1 ticks value
-  pub step : done (ready .state) (ready .event) ≡ x
+pub record Onward (y : Stepped) (m : List ℕ) (x : Seen) (before0 before1 ticks value : ℕ) : Type 0 where
+  pub ready : Ready m x before0 before1 ticks value
+  pub step : done (ready .state) (ready .event) ≡ y
 
-module _ (s : State) (i : InRange s) (j : InBytes s) {m : List ℕ} (a : Acted) {was : Before} {before0 before1 : ℕ} (p : was .rst ≡ rstSeen (s .registers) (s .lines)) (q : was .req ≡ reqSeen (s .registers) (s .lines)) (r : was .mismatched ≡ mismatched (s .registers) (s .lines)) (y : simode0Of before0 ≡ s .registers .simode0) (z : simode1Of before1 ≡ s .registers .simode1) where
-  acts-onward : (e : Event) → EventFits e → Acts s e m a → a .ends ≡ false → Onward (access s e) m was before0 before1 (a .ticks) (a .value)
+module _ (s : State) (i : InRange s) (j : InBytes s) {m : List ℕ} (a : Acted) {seen : Seen} {before0 before1 : ℕ} (p : rstOf seen ≡ rstSeen (s .registers) (s .lines)) (q : reqOf seen ≡ reqSeen (s .registers) (s .lines)) (r : mismatchedOf seen ≡ mismatched (s .registers) (s .lines)) (y : simode0Of before0 ≡ s .registers .simode0) (z : simode1Of before1 ≡ s .registers .simode1) where
+  acts-onward : (e : Event) → EventFits e → Acts s e m a → a .ends ≡ false → Onward (access s e) m seen before0 before1 (a .ticks) (a .value)
   acts-onward e f x h =
       let t : isDone (accessCode s e) ≡ true = not-false (isDone (accessCode s e)) (x .ends) h in
       record {
@@ -106,10 +107,10 @@ module _ (s : State) (i : InRange s) (j : InBytes s) {m : List ℕ} (a : Acted) 
         step = access-done s e t;
       }
 
-  never-ended : (t : State) (code : Code) (value : ℕ) {x : Stepped} → Ends t code value m a → a .ends ≡ false → Onward x m was before0 before1 (a .ticks) (a .value)
+  never-ended : (t : State) (code : Code) (value : ℕ) {x : Stepped} → Ends t code value m a → a .ends ≡ false → Onward x m seen before0 before1 (a .ticks) (a .value)
   never-ended t code value x h = absurd (never (sym h ∙ ap (λ (y : Acted). y .ends) (x .acted)))
 
-  event-onward : (e : Event) → EventFits e → OpensEvent s e m a → a .ends ≡ false → Onward (stepEvent s e) m was before0 before1 (a .ticks) (a .value)
+  event-onward : (e : Event) → EventFits e → OpensEvent s e m a → a .ends ≡ false → Onward (stepEvent s e) m seen before0 before1 (a .ticks) (a .value)
   unfolding stepEvent
   event-onward PowerReset f x h = never-ended powerReset Done 0 x h
   event-onward (Write o v) f x h = acts-onward (Write o v) f x h
@@ -119,7 +120,7 @@ module _ (s : State) (i : InRange s) (j : InBytes s) {m : List ℕ} (a : Acted) 
   event-onward (Drive l) f x h = acts-onward (Drive l) f x h
   event-onward (Ticks n) f x h = acts-onward (Ticks n) f x h
 
-  pub opens-onward : (d : Decoded) → DecodedFits d → Opens s d m a → a .ends ≡ false → Onward (stepDecoded s d) m was before0 before1 (a .ticks) (a .value)
+  pub opens-onward : (d : Decoded) → DecodedFits d → Opens s d m a → a .ends ≡ false → Onward (stepDecoded s d) m seen before0 before1 (a .ticks) (a .value)
   unfolding stepDecoded
   opens-onward (Well e) f x h = event-onward e f x h
   opens-onward Ill f x h = never-ended s Malformed 0 x h

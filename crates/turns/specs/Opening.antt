@@ -19,7 +19,8 @@ use Rattle.rules.specs.declared.records.Decoded.the-variants.{Well, Ill}
 use Rattle.image.specs.Image.{imageOf}
 use Rattle.acted.specs.declared.Acted.{Acted}
 use Rattle.acted.specs.Acting.{Acts, refusedAs}
-use Rattle.edged.specs.declared.last.Before.{Before}
+use Rattle.edged.specs.declared.last.Seen.{Seen}
+use Rattle.edged.specs.Since.{rstOf, reqOf, mismatchedOf}
 
 -- an answer that is ready: the image of a state, a code and a value
 pub record Ends (s : State) (code : Code) (value : ℕ) (m : List ℕ) (a : Acted) : Type 0 where
@@ -41,7 +42,7 @@ Opens s (Well e) m a = OpensEvent s e m a
 Opens s Ill m a = Ends s Malformed 0 m a
 
 -- an event that is done so far: the state before it, the image after A, and what was seen and enabled before
-pub record Ready (m : List ℕ) (was : Before) (before0 before1 t v : ℕ) : Type 0 where
+pub record Ready (m : List ℕ) (x : Seen) (before0 before1 t v : ℕ) : Type 0 where
   pub state : State
   pub event : Event
   pub fits : EventFits event
@@ -49,9 +50,9 @@ pub record Ready (m : List ℕ) (was : Before) (before0 before1 t v : ℕ) : Typ
   pub range : InRange state
   pub bytes : InBytes state
   pub made : m ≡ imageOf (afterA state event)
-  pub rst : was .rst ≡ rstSeen (state .registers) (state .lines)
-  pub req : was .req ≡ reqSeen (state .registers) (state .lines)
-  pub mismatched : was .mismatched ≡ mismatched (state .registers) (state .lines)
+  pub rst : rstOf x ≡ rstSeen (state .registers) (state .lines)
+  pub req : reqOf x ≡ reqSeen (state .registers) (state .lines)
+  pub mismatched : mismatchedOf x ≡ mismatched (state .registers) (state .lines)
   pub simode0 : simode0Of before0 ≡ state .registers .simode0
   pub simode1 : simode1Of before1 ≡ state .registers .simode1
   pub ticks : t ≡ ticksOf event

@@ -6,7 +6,7 @@ ghost use Rattle.image.specs.Image.{IsImage, stateAt};
 ghost use Rattle.turns.specs.Given.{Leaves, Gives, endedAs};
 use crate::finishing::finished;
 use crate::opening::opened;
-use edged::last_seen;
+use edged::since::seen_in;
 use given::answers::answer_of;
 use rules::codes::Code;
 
@@ -38,7 +38,7 @@ pub fn outcome_of(m: &mut [u8; 196], bytes: &[u8]) -> Outcome
     requires { ⌜ IsImage (now m) ⌝ }
     ensures { λ r. ⌜ Leaves (step (stateAt (now (m .entry))) (now (bytes .entry))) (now (m .exit)) r ⌝ }
 {
-    let was = last_seen(m);
+    let seen = seen_in(m);
     let before0 = m[7];
     let before1 = m[8];
     let a = opened(m, bytes);
@@ -46,7 +46,7 @@ pub fn outcome_of(m: &mut [u8; 196], bytes: &[u8]) -> Outcome
         let code = a.code;
         return ended(code, a.value);
     }
-    finished(m, was, before0, before1, a.ticks, a.value)
+    finished(m, seen, before0, before1, a.ticks, a.value)
 }
 
 // A record on an image, and its answer.

@@ -7,8 +7,8 @@ ghost use Rattle.turns.specs.Given.{Leaves};
 ghost use Rattle.turns.specs.Opening.{Ready};
 use crate::closing::closed_in;
 use crate::event::Outcome;
-use edged::edges_in;
-use edged::last::Before;
+use edged::last::Seen;
+use edged::since::edges_since;
 use rules::codes::Code;
 use settled::settle;
 
@@ -26,17 +26,17 @@ fn code_of(beyond: bool) -> Code
 // before0 and before1 are 350h and 351h before the event.
 pub fn finished(
     m: &mut [u8; 196],
-    was: Before,
+    seen: Seen,
     before0: u8,
     before1: u8,
     ticks: u32,
     value: u16,
 ) -> Outcome
-    requires { ⌜ Ready (now m) was before0 before1 ticks value ⌝ }
-    ensures { λ r. ⌜ ((w : Ready (now (m .entry)) was before0 before1 ticks value) → Leaves (done (w .state) (w .event)) (now (m .exit)) r) ⌝ }
+    requires { ⌜ Ready (now m) seen before0 before1 ticks value ⌝ }
+    ensures { λ r. ⌜ ((w : Ready (now (m .entry)) seen before0 before1 ticks value) → Leaves (done (w .state) (w .event)) (now (m .exit)) r) ⌝ }
 {
     let status = m[12];
-    let beyond = edges_in(m, was, ticks);
+    let beyond = edges_since(m, seen, ticks);
     let t = settle(m);
     closed_in(m, before0, before1, status, t.acks);
     let code = code_of(beyond);

@@ -1,5 +1,5 @@
 use borrow.Author.Needs.{needs}
-use mathlib.Core.Path.{_≡_, refl, sym, _∙_}
+use mathlib.Core.Path.{_≡_, refl, ap, sym, _∙_}
 use mathlib.Core.List.{List}
 use Prim.Native.Nat.{ℕ}
 use lib.ListN.{getD}
@@ -10,6 +10,8 @@ use Rattle.rules.specs.Records.{decode}
 use Rattle.rules.specs.Answers.{Stepped}
 use Rattle.rules.proofs.Ranges.{decode-fits}
 use Rattle.image.specs.Image.{stateAt}
+use Rattle.edged.specs.Since.{rstOf, reqOf, mismatchedOf}
+use Rattle.edged.proofs.Still.{rst-of, req-of, mismatched-of}
 use Rattle.turns.specs.Given.{endedAs}
 use Rattle.turns.proofs.Starts as starts
 use Rattle.turns.proofs.event.outcome_of.Statement.{statement}
@@ -24,14 +26,14 @@ returns c =
     rw (c .ended .ensures) (starts.opens-leaves (stateAt (start .args .m .now)) (a .opened .result) (decode (start .args .bytes .now)) (a .opened .ensures) (branch .if1 .taken))
 
 -- what was seen and enabled before the event
-onward : (c : tie.Else1) → starts.Onward (step (stateAt (c .before .before .before .before .before .before .before .before .args .m .now)) (c .before .before .before .before .before .before .before .before .args .bytes .now)) (c .before .opened .last .0) (c .before .before .before .before .before .last-seen .result) (getD (c .before .before .before .before .before .before .before .before .args .m .now) 7 0) (getD (c .before .before .before .before .before .before .before .before .args .m .now) 8 0) (c .before .opened .result .ticks) (c .before .opened .result .value)
+onward : (c : tie.Else1) → starts.Onward (step (stateAt (c .before .before .before .before .before .before .before .before .args .m .now)) (c .before .before .before .before .before .before .before .before .args .bytes .now)) (c .before .opened .last .0) (c .before .before .before .before .before .seen-in .result) (getD (c .before .before .before .before .before .before .before .before .args .m .now) 7 0) (getD (c .before .before .before .before .before .before .before .before .args .m .now) 8 0) (c .before .opened .result .ticks) (c .before .opened .result .value)
 unfolding step stateAt
 onward c =
     let a = c .before in
-    let was = a .before .before .before .before in
-    let start = was .before .before .before in
+    let seen = a .before .before .before .before in
+    let start = seen .before .before .before in
     let m = start .args .m .now in
-    starts.opens-onward (stateAt m) (start .pre .range) (start .pre .bytes) (a .opened .result) (was .last-seen .ensures .0) (was .last-seen .ensures .1 .0) (was .last-seen .ensures .1 .1) refl refl (decode (start .args .bytes .now)) (decode-fits (start .args .bytes .now)) (a .opened .ensures) (c .if1 .left)
+    starts.opens-onward (stateAt m) (start .pre .range) (start .pre .bytes) (a .opened .result) (ap rstOf (seen .seen-in .ensures) ∙ rst-of m) (ap reqOf (seen .seen-in .ensures) ∙ req-of m) (ap mismatchedOf (seen .seen-in .ensures) ∙ mismatched-of m) refl refl (decode (start .args .bytes .now)) (decode-fits (start .args .bytes .now)) (a .opened .ensures) (c .if1 .left)
 
 finished-requires : tie.Need-finished-requires
 finished-requires c κs = (onward (c .before)) .ready

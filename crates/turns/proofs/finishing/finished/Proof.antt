@@ -9,8 +9,8 @@ use Rattle.turns.proofs.ThroughAll as all
 use Rattle.turns.proofs.finishing.finished.Statement.{statement}
 use Rattle.turns.proofs.finishing.finished.Tie as tie
 
-edges-in-requires : tie.Need-edges-in-requires
-edges-in-requires c κs =
+edges-since-requires : tie.Need-edges-since-requires
+edges-since-requires c κs =
     let w = c .before .before .pre in
     b.image-a (w .state) (w .range) (w .bytes) (w .event) (w .fits) (w .done) (w .made)
 
@@ -18,7 +18,7 @@ settle-requires : tie.Need-settle-requires
 settle-requires c κs =
     let found = c .before in
     let w = found .before .before .before .pre in
-    b.image-b (w .state) (w .range) (w .bytes) (w .event) (w .fits) (w .done) (w .made) (w .rst) (w .req) (w .ticks) (w .mismatched) (found .edges-in .ensures .1)
+    b.image-b (w .state) (w .range) (w .bytes) (w .event) (w .fits) (w .done) (w .made) (w .rst) (w .req) (w .ticks) (w .mismatched) (found .edges-since .ensures .1)
 
 closed-in-requires : tie.Need-closed-in-requires
 closed-in-requires c κs =
@@ -26,7 +26,7 @@ closed-in-requires c κs =
     let found = settled .before .before in
     let w = found .before .before .before .pre in
     all.image-c (w .state) (w .event) (b.b-fits (w .state) (w .range) (w .bytes) (w .event) (w .fits) (w .done) (w .made)) (b.b-bytes (w .state) (w .range) (w .bytes) (w .event) (w .fits) (w .done) (w .made))
-    (b.is-b (w .state) (w .range) (w .bytes) (w .event) (w .fits) (w .done) (w .made) (w .rst) (w .req) (w .ticks) (w .mismatched) (found .edges-in .ensures .1)) (settled .settle .ensures)
+    (b.is-b (w .state) (w .range) (w .bytes) (w .event) (w .fits) (w .done) (w .made) (w .rst) (w .req) (w .ticks) (w .mismatched) (found .edges-since .ensures .1)) (settled .settle .ensures)
 
 abbrev beyond-code : Bool → Code
 beyond-code x = cond x BeyondLimit Done
@@ -39,11 +39,11 @@ returns c =
     let found = settled .before .before in
     λ w.
     all.leaves (w .state) (w .event) (b.b-fits (w .state) (w .range) (w .bytes) (w .event) (w .fits) (w .done) (w .made)) (b.b-bytes (w .state) (w .range) (w .bytes) (w .event) (w .fits) (w .done) (w .made))
-    (b.is-b (w .state) (w .range) (w .bytes) (w .event) (w .fits) (w .done) (w .made) (w .rst) (w .req) (w .ticks) (w .mismatched) (found .edges-in .ensures .1)) (settled .settle .ensures)
+    (b.is-b (w .state) (w .range) (w .bytes) (w .event) (w .fits) (w .done) (w .made) (w .rst) (w .req) (w .ticks) (w .mismatched) (found .edges-since .ensures .1)) (settled .settle .ensures)
     (w .simode0) (w .simode1) (status-of _ (b.state-a (w .state) (w .range) (w .bytes) (w .event) (w .fits) (w .done) (w .made))) (closed .closed-in .ensures)
-    (code .code-of .ensures ∙ ap beyond-code (b.beyond-is (w .state) (w .range) (w .bytes) (w .event) (w .fits) (w .done) (w .made) (w .rst) (w .req) (w .ticks) (found .edges-in .ensures .0))) (w .value)
+    (code .code-of .ensures ∙ ap beyond-code (b.beyond-is (w .state) (w .range) (w .bytes) (w .event) (w .fits) (w .done) (w .made) (w .rst) (w .req) (w .ticks) (found .edges-since .ensures .0))) (w .value)
 
 pub finished-spec : {M : Type 1} → statement M
 finished-spec =
     tie.close
-    (tie.spec (λ c. search needs) edges-in-requires settle-requires closed-in-requires (λ c κs. search needs) returns)
+    (tie.spec (λ c. search needs) edges-since-requires settle-requires closed-in-requires (λ c κs. search needs) returns)
