@@ -1,60 +1,63 @@
--- A line event changes the lines, and SCSIPERR is held.
-use Prim.Native.Nat.{ℕ, _<_}
-use mathlib.Core.Path.{_≡_, refl, ap, sym, _∙_}
-use mathlib.Core.Bool.{false}
-use mathlib.Core.List.{List}
+-- Words, lines and ticks: what each leaves, and that SCSIPERR is held.
+use Prim.Native.Nat.{ℕ, _%_, _/_, _<_}
+use mathlib.Core.Path.{_≡_, refl, sym, _∙_}
+use mathlib.Core.List.{List, [], _∷_, _++_}
+use lib.ListN.{drop}
 use Rattle.rules.specs.State.{State}
 use Rattle.rules.specs.Events.{writes, reads, valueOf, linesAfter, offered, asked, portWrite, ticksOf}
 use Rattle.rules.specs.Codes.{accessCode}
 use Rattle.rules.specs.Reads.{valueRead}
-use Rattle.rules.specs.Ranges.{InRange, InBytes}
 use Rattle.rules.specs.StepA.{clears, clearsLatch, clearsError, clrstcnt, clrch, rstfifo, latchAccess, automaticAck, registersA, hostA, counterA, transferA, statusA, latchesA, stackA, identityA, afterA}
 use Rattle.rules.specs.declared.codes.Code.the-variants.{Done}
-use Rattle.rules.specs.declared.records.Event.the-variants.{WordRead, Drive}
+use Rattle.rules.specs.declared.records.Event.the-variants.{WordWrite, WordRead, Drive, Ticks}
 use Rattle.rules.specs.declared.records.Lines.{Lines}
-use Rattle.checks.proofs.Accesses as accesses
-use Rattle.checks.proofs.ByState.{access-code-by}
-use Rattle.image.specs.Image.{imageOf, stateAt, IsImage, withLines, withStatus}
-use Rattle.acted.specs.declared.Acted.{Acted}
-use Rattle.acted.specs.Acting.{Acts, doneWith}
-use Rattle.acted.proofs.Endings.{acts-done}
-use Rattle.acted.proofs.Going.{image-is, onward}
+use Rattle.image.specs.Image.{stateAt, IsImage, withLines}
+use Rattle.ports.specs.Ready.{withHost}
+use Rattle.acted.specs.Writes.{kept}
+use Rattle.acted.proofs.Accesses as accesses
+use Rattle.acted.proofs.Coding.{code-at-is, held-fits}
+use Rattle.acted.proofs.Reached.{Leaves}
 
--- the status where no register is written
-abbrev pub held : State → State
-held s = withStatus (statusA false false (s .registers .sxfrctl1 .enspchk) (s .status) WordRead) s
+-- the state after each, by computing
+module _ (s : State) where
+  word-behind : (w : ℕ) → kept (withHost (s .transfer .host ++ (w % 256 ∷ w / 256 ∷ [])) s) ≡ afterA s (WordWrite w)
+  unfolding afterA linesAfter registersA transferA statusA latchesA stackA identityA latchAccess automaticAck hostA counterA clears clearsLatch clearsError clrstcnt clrch rstfifo writes reads valueOf offered asked portWrite
+  word-behind w = refl
 
-driven-is : (s : State) (l : Lines) → held (withLines l s) ≡ afterA s (Drive l)
-unfolding afterA linesAfter registersA transferA statusA latchesA stackA identityA latchAccess automaticAck hostA counterA clears clearsLatch clearsError clrstcnt clrch rstfifo writes reads valueOf offered asked portWrite
-driven-is s l = refl
+  word-off : kept (withHost (drop 2 (s .transfer .host)) s) ≡ afterA s WordRead
+  unfolding afterA linesAfter registersA transferA statusA latchesA stackA identityA latchAccess automaticAck hostA counterA clears clearsLatch clearsError clrstcnt clrch rstfifo writes reads valueOf offered asked portWrite
+  word-off = refl
 
-no-value : (s : State) (l : Lines) → 0 ≡ valueRead s (Drive l)
-unfolding valueRead
-no-value s l = refl
+  lines-driven : (l : Lines) → kept (withLines l s) ≡ afterA s (Drive l)
+  unfolding afterA linesAfter registersA transferA statusA latchesA stackA identityA latchAccess automaticAck hostA counterA clears clearsLatch clearsError clrstcnt clrch rstfifo writes reads valueOf offered asked portWrite
+  lines-driven l = refl
 
-no-ticks : (l : Lines) → 0 ≡ ticksOf (Drive l)
-unfolding ticksOf
-no-ticks l = refl
+  ticks-passed : (n : ℕ) → kept s ≡ afterA s (Ticks n)
+  unfolding afterA linesAfter registersA transferA statusA latchesA stackA identityA latchAccess automaticAck hostA counterA clears clearsLatch clearsError clrstcnt clrch rstfifo writes reads valueOf offered asked portWrite
+  ticks-passed n = refl
 
-module _ {m : List ℕ} (g : IsImage m) (l : Lines) (b : l .byte < 256) {n : List ℕ} (h : n ≡ imageOf (withLines l (stateAt m))) where
-  abbrev s : State
-  s = stateAt m
+module _ {m : List ℕ} (g : IsImage m) where
+  pub leaves-word : {w : ℕ} → w < 65536 → accessCode (stateAt m) (WordWrite w) ≡ Done → Leaves m (WordWrite w) (kept (withHost ((stateAt m) .transfer .host ++ (w % 256 ∷ w / 256 ∷ [])) (stateAt m)))
+  leaves-word {w} f d = record { image = g; fits = f; done = d; after = word-behind (stateAt m) w }
 
-  range : InRange (withLines l s)
-  range =
-      let i = g .range in
-      record { registers = i .registers; transfer = i .transfer; stack = i .stack; quiet = i .quiet; identity = i .identity }
+  pub leaves-off : accessCode (stateAt m) WordRead ≡ Done → Leaves m WordRead (kept (withHost (drop 2 ((stateAt m) .transfer .host)) (stateAt m)))
+  leaves-off d = record { image = g; fits = tt; done = d; after = word-off (stateAt m) }
 
-  bytes : InBytes (withLines l s)
-  bytes =
-      let j = g .bytes in
-      record { lines = b; registers = j .registers; transfer = j .transfer; stack = j .stack }
+  -- no check is made of what is no access
+  pub leaves-driven : (l : Lines) → l .byte < 256 → Leaves m (Drive l) (kept (withLines l (stateAt m)))
+  leaves-driven l f =
+      record {
+        image = g;
+        fits = f;
+        done = sym (accesses.driven ((stateAt m) .registers .dmacntrl0) _ (held-fits g) l ∙ code-at-is g (Drive l));
+        after = lines-driven (stateAt m) l;
+      }
 
-  pub image-driven : IsImage n
-  image-driven = image-is (withLines l s) h range bytes
-
-  code : accessCode s (Drive l) ≡ Done
-  code = access-code-by s (Drive l) ∙ sym (accesses.driven (s .registers .dmacntrl0) _ (g .range .transfer .host) l)
-
-  pub acts-driven : {k : List ℕ} {a : Acted} → k ≡ imageOf (held (stateAt n)) → a ≡ doneWith 0 0 → Acts s (Drive l) k a
-  acts-driven p q = acts-done s (Drive l) code (onward held (withLines l s) h range bytes p ∙ ap imageOf (driven-is s l)) (no-value s l) (no-ticks l) q
+  pub leaves-ticked : {n : ℕ} → n < 16777216 → Leaves m (Ticks n) (kept (stateAt m))
+  leaves-ticked {n} f =
+      record {
+        image = g;
+        fits = f;
+        done = sym (accesses.ticked ((stateAt m) .registers .dmacntrl0) _ (held-fits g) n ∙ code-at-is g (Ticks n));
+        after = ticks-passed (stateAt m) n;
+      }

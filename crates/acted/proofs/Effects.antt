@@ -8,19 +8,20 @@ use lib.ListN.{getD}
 use Rattle.rules.specs.Numbers.{bit}
 use Rattle.rules.specs.State.{State}
 use Rattle.rules.specs.Counter.{counterWith}
-use Rattle.rules.specs.Stack.{stackWritten}
+use Rattle.rules.specs.Stack.{stackWritten, pointed}
+use Rattle.rules.specs.Codes.{accessCode}
 use Rattle.rules.specs.Events.{writes, reads}
-use Rattle.rules.specs.StepA.{latchAccess, automaticAck, statusA, latchesA, stackA}
+use Rattle.rules.specs.StepA.{latchAccess, automaticAck, statusA, latchesA}
+use Rattle.rules.specs.declared.codes.Code.the-variants.{Done}
 use Rattle.rules.specs.declared.map.Register.the-variants.{SCSISEQ, SXFRCTL1, SCSISIGO, SCSIRATE, SCSIID, SIMODE0, SIMODE1, BRSTCNTRL}
 use Rattle.rules.specs.declared.records.Event.the-variants.{Write, WordRead}
-use Rattle.checks.specs.CodeBy.{shutTo}
 use Rattle.image.specs.Image.{stateAt, IsImage, withStatus, withLatches, withStack}
 use Rattle.ports.specs.Ready.{withHost, withCounter}
 use Rattle.acted.specs.Writes.{Leaving, Does, Plain, storing, kept, channelCleared, counterCleared, hostCleared, ackCounted}
 use Rattle.acted.proofs.Reached.{Leaves}
-use Rattle.acted.proofs.WriteCodes.{write-code, Test, test-done, port-done}
+use Rattle.acted.proofs.WriteCodes.{write-code, Test, test-done}
 
-pub leaves : {o : ℕ} {w : State → ℕ → State} → Does o w → {b : List ℕ} → IsImage b → {v : ℕ} → v < 256 → Leaves b o v (w (stateAt b) v)
+pub leaves : {o : ℕ} {w : State → ℕ → State} → Does o w → {b : List ℕ} → IsImage b → {v : ℕ} → v < 256 → Leaves b (Write o v) (w (stateAt b) v)
 unfolding Leaving
 leaves d {b = b} g {v = v} f = record { image = g; fits = (d .fits, f); done = d .done (stateAt b) v (g .range .transfer .host); after = d .after (stateAt b) v }
 
@@ -78,7 +79,7 @@ unfolding latchAccess writes reads stateAt
 latch-accessed m v = rw (or-false (not (bit (getD m 16 0) 6)))
 
 -- where the code has the two tests as it found them
-pub fills : {m : List ℕ} → IsImage m → {v : ℕ} → v < 256 → {x y : Bool} → x ≡ latchAccess (stateAt m) (Write 0x06 v) → y ≡ automaticAck (stateAt m) (Write 0x06 v) → Leaves m 0x06 v (latchFilled x y (stateAt m) v)
+pub fills : {m : List ℕ} → IsImage m → {v : ℕ} → v < 256 → {x y : Bool} → x ≡ latchAccess (stateAt m) (Write 0x06 v) → y ≡ automaticAck (stateAt m) (Write 0x06 v) → Leaves m (Write 0x06 v) (latchFilled x y (stateAt m) v)
 unfolding Leaving
 fills {m} g {v} f p q = record { image = g; fits = (scsidat .fits, f); done = scsidat .done (stateAt m) v (g .range .transfer .host); after = (λ i. latchFilled (p i) (q i) (stateAt m) v) ∙ scsidat .after (stateAt m) v }
 
@@ -119,10 +120,7 @@ unfolding Leaving
 dmacntrl0 = record { fits = omega arith; done = λ s v. write-code s 0x12 v; after = λ s v. refl }
 
 -- the pointer is written with 353h, the place that it names with 35Dh
-abbrev pub stackSet : ℕ → State → ℕ → State
-stackSet o s v = withStack (stackA (s .registers .dmacntrl1 .enstk32) (s .stack) (Write o v)) s
-
-pub dmacntrl1 : Does 0x13 (λ (s : State) (v : ℕ). kept (storing 0x13 (stackSet 0x13 s v) v))
+pub dmacntrl1 : Does 0x13 (λ (s : State) (v : ℕ). kept (storing 0x13 (withStack (pointed v (s .stack)) s) v))
 unfolding Leaving
 dmacntrl1 = record { fits = omega arith; done = λ s v. write-code s 0x13 v; after = λ s v. refl }
 
@@ -131,11 +129,11 @@ unfolding Leaving
 stack = record { fits = omega arith; done = λ s v. write-code s 0x1D v; after = λ s v. refl }
 
 -- a byte through the port goes behind
-pub port-leaves : {m : List ℕ} → IsImage m → {v : ℕ} → v < 256 → shutTo ((stateAt m) .registers .dmacntrl0) false false ≡ false → getD m 24 0 < 128 → Leaves m 0x16 v (kept (withHost ((stateAt m) .transfer .host ++ (v ∷ [])) (stateAt m)))
+pub port-leaves : {m : List ℕ} → IsImage m → {v : ℕ} → v < 256 → accessCode (stateAt m) (Write 0x16 v) ≡ Done → Leaves m (Write 0x16 v) (kept (withHost ((stateAt m) .transfer .host ++ (v ∷ [])) (stateAt m)))
 unfolding Leaving
-port-leaves g {v} f h l = record { image = g; fits = (omega arith, f); done = port-done g v h l; after = refl }
+port-leaves g {v} f d = record { image = g; fits = (omega arith, f); done = d; after = refl }
 
 -- 34Eh and 35Eh take 0
-pub test-leaves : {m : List ℕ} → IsImage m → {v : ℕ} → v < 256 → {o : ℕ} → Test o → v ≡ 0 → Leaves m o v (kept (stateAt m))
+pub test-leaves : {m : List ℕ} → IsImage m → {v : ℕ} → v < 256 → {o : ℕ} → Test o → v ≡ 0 → Leaves m (Write o v) (kept (stateAt m))
 unfolding Leaving
 test-leaves {m} g {v} f t z = record { image = g; fits = (t .fits, f); done = test-done g v t z; after = t .after (stateAt m) v }

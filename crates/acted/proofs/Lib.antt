@@ -1,14 +1,14 @@
+pub mod Accesses
 pub mod Coding
+pub mod DoneCode
 pub mod Driven
 pub mod Effects
 pub mod Endings
 pub mod Going
 pub mod LineBits
-pub mod PartsOfA
 pub mod ReadFound
 pub mod ReadLaws
 pub mod ReadParts
 pub mod Reached
-pub mod ThroughA
 pub mod Unwritable
 pub mod WriteCodes

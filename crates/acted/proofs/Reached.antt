@@ -1,4 +1,4 @@
--- The states that a write goes through in A, each with its image.
+-- The states that an event goes through in A, each with its image.
 use Prim.Native.Nat.{ℕ}
 use mathlib.Core.Path.{_≡_, refl, ap, sym, subst, _∙_}
 use mathlib.Core.Bool.{Bool}
@@ -13,12 +13,11 @@ use Rattle.rules.specs.declared.registers.Registers.{Registers}
 use Rattle.rules.specs.declared.codes.Code.the-variants.{Done}
 use Rattle.rules.specs.declared.records.Event.{Event}
 use Rattle.rules.specs.declared.records.Event.the-variants.{Write}
-use Rattle.image.specs.Image.{imageOf, stateAt, IsImage, withRegisters, withTransfer, withStatus, withLatches, withStack}
+use Rattle.image.specs.Image.{imageOf, stateAt, IsImage, withLines, withRegisters, withTransfer, withStatus, withLatches, withStack}
 use Rattle.acted.specs.declared.Acted.{Acted}
 use Rattle.acted.specs.Acting.{Acts, doneWith}
 use Rattle.acted.proofs.Endings.{acts-done}
-use Rattle.acted.proofs.Going.{image-is, onward}
-use Rattle.acted.proofs.ThroughA.{a-fits, a-bytes}
+use Rattle.acted.proofs.Going.{image-is, onward, a-fits, a-bytes}
 
 pub record Reached (m : List ℕ) (t : State) : Type 0 where
   pub image : m ≡ imageOf t
@@ -49,27 +48,27 @@ module _ {m : List ℕ} {t : State} (r : Reached m t) where
         bytes = record { lines = r .bytes .lines; registers = r .bytes .registers; transfer = r .bytes .transfer; stack = r .bytes .stack };
       }
 
--- a write that is done, and the state that it leaves
-pub record Leaves (b : List ℕ) (o v : ℕ) (w : State) : Type 0 where
+-- an event that is done, and the state that it leaves
+pub record Leaves (b : List ℕ) (e : Event) (w : State) : Type 0 where
   pub image : IsImage b
-  pub fits : EventFits (Write o v)
-  pub done : accessCode (stateAt b) (Write o v) ≡ Done
-  pub after : w ≡ afterA (stateAt b) (Write o v)
+  pub fits : EventFits e
+  pub done : accessCode (stateAt b) e ≡ Done
+  pub after : w ≡ afterA (stateAt b) e
 
-module _ {b : List ℕ} {o v : ℕ} {w : State} (l : Leaves b o v w) where
+module _ {b : List ℕ} {e : Event} {w : State} (l : Leaves b e w) where
   range-left : InRange w
-  range-left = subst InRange (sym (l .after)) (a-fits (l .image) (Write o v) (l .fits) (l .done))
+  range-left = subst InRange (sym (l .after)) (a-fits (l .image) e (l .fits) (l .done))
 
   bytes-left : InBytes w
-  bytes-left = subst InBytes (sym (l .after)) (a-bytes (l .image) (Write o v) (l .fits) (l .done))
+  bytes-left = subst InBytes (sym (l .after)) (a-bytes (l .image) e (l .fits) (l .done))
 
   -- a part of what it leaves, in place
   module _ {m n : List ℕ} {t : State} (r : Reached m t) where
-    pub stored : registersA (t .registers) (Write o v) ≡ w .registers → n ≡ imageOf (withRegisters (registersA ((stateAt m) .registers) (Write o v)) (stateAt m)) → Reached n (withRegisters (w .registers) t)
+    pub stored : registersA (t .registers) e ≡ w .registers → n ≡ imageOf (withRegisters (registersA ((stateAt m) .registers) e) (stateAt m)) → Reached n (withRegisters (w .registers) t)
     stored q h =
         record {
           image =
-              onward (λ (x : State). withRegisters (registersA (x .registers) (Write o v)) x) t (r .image) (r .range) (r .bytes) h
+              onward (λ (x : State). withRegisters (registersA (x .registers) e) x) t (r .image) (r .range) (r .bytes) h
               ∙ ap (λ (x : Registers). imageOf (withRegisters x t)) q;
           range = record { registers = range-left .registers; transfer = r .range .transfer; stack = r .range .stack; quiet = r .range .quiet; identity = r .range .identity };
           bytes = record { lines = r .bytes .lines; registers = bytes-left .registers; transfer = r .bytes .transfer; stack = r .bytes .stack };
@@ -91,7 +90,19 @@ module _ {b : List ℕ} {o v : ℕ} {w : State} (l : Leaves b o v w) where
           bytes = record { lines = r .bytes .lines; registers = r .bytes .registers; transfer = r .bytes .transfer; stack = bytes-left .stack };
         }
 
+    pub driven : n ≡ imageOf (withLines (w .lines) t) → Reached n (withLines (w .lines) t)
+    driven h =
+        record {
+          image = h;
+          range = record { registers = r .range .registers; transfer = r .range .transfer; stack = r .range .stack; quiet = r .range .quiet; identity = r .range .identity };
+          bytes = record { lines = bytes-left .lines; registers = r .bytes .registers; transfer = r .bytes .transfer; stack = r .bytes .stack };
+        }
+
   -- all of what it leaves
-  pub acts : {n : List ℕ} {a : Acted} → Reached n w → a ≡ doneWith 0 0 → Acts (stateAt b) (Write o v) n a
-  unfolding valueRead ticksOf
-  acts r h = acts-done (stateAt b) (Write o v) (l .done) (r .image ∙ ap imageOf (l .after)) refl refl h
+  pub acts-with : {v n : ℕ} {m : List ℕ} {a : Acted} → v ≡ valueRead (stateAt b) e → n ≡ ticksOf e → Reached m w → a ≡ doneWith v n → Acts (stateAt b) e m a
+  acts-with p q r h = acts-done (stateAt b) e (l .done) (r .image ∙ ap imageOf (l .after)) p q h
+
+-- a write gives no value
+pub acts : {b : List ℕ} {o v : ℕ} {w : State} → Leaves b (Write o v) w → {n : List ℕ} {a : Acted} → Reached n w → a ≡ doneWith 0 0 → Acts (stateAt b) (Write o v) n a
+unfolding valueRead ticksOf
+acts l r h = acts-with l refl refl r h

@@ -1,32 +1,30 @@
 -- A register read: its code, and the image that is left once SCSIPERR is held.
-use Prim.Native.Nat.{ℕ, _≤_, _<_}
+use Prim.Native.Nat.{ℕ, _<_}
 use mathlib.Core.Path.{_≡_, refl, ap, sym, _∙_}
 use mathlib.Core.Bool.{Bool, true, false, _&&_}
 use mathlib.Core.List.{List}
 use lib.Dec.{eqb, ltb}
 use lib.ListN.{getD}
-use borrow.Author.Tests.{lt-ltb, le-ltb}
 use Rattle.rules.specs.State.{State}
-use Rattle.rules.specs.Map.{table, readAt, isMissing}
+use Rattle.rules.specs.Map.{readAt, isMissing}
 use Rattle.rules.specs.Events.{writes, ticksOf}
 use Rattle.rules.specs.Codes.{accessCode, isDone, refusedValue}
 use Rattle.rules.specs.Reads.{valueRead}
 use Rattle.rules.specs.Ranges.{InRange, InBytes}
 use Rattle.rules.specs.StepA.{clears, clearsError, latchAccess, automaticAck, statusA, afterA}
 use Rattle.rules.specs.declared.codes.Code.{Code}
-use Rattle.rules.specs.declared.codes.Code.the-variants.{Done, Absent, Shut, NoBytes}
+use Rattle.rules.specs.declared.codes.Code.the-variants.{Done, Absent}
 use Rattle.rules.specs.declared.map.Register.{Register}
 use Rattle.rules.specs.declared.map.Mapped.the-variants.{Present, Missing}
 use Rattle.rules.specs.declared.records.Event.the-variants.{Read, WordRead}
-use Rattle.checks.specs.CodeBy.{shutTo, firstOf}
-use Rattle.checks.proofs.Accesses.{read}
-use Rattle.image.specs.Image.{imageOf, stateAt, registersAt, IsImage, withStatus}
+use Rattle.image.specs.Image.{imageOf, stateAt, IsImage, withStatus}
 use Rattle.acted.specs.declared.Acted.{Acted}
 use Rattle.acted.specs.Acting.{Acts, refusedAs, doneWith}
+use Rattle.acted.specs.CodeBy.{shutTo, firstOf}
+use Rattle.acted.proofs.Accesses.{read}
 use Rattle.acted.proofs.Coding.{held-fits, code-at-is}
 use Rattle.acted.proofs.Endings.{acts-done, acts-refused}
-use Rattle.acted.proofs.Going.{image-is, onward}
-use Rattle.acted.proofs.ThroughA.{a-fits, a-bytes}
+use Rattle.acted.proofs.Going.{image-is, onward, a-fits, a-bytes}
 
 module _ {m : List ℕ} (g : IsImage m) (o : ℕ) where
   -- by what stands there and, at the port, by its tests
@@ -42,21 +40,6 @@ module _ {m : List ℕ} (g : IsImage m) (o : ℕ) where
   pub read-refused : (k : Code) {a : Acted} → accessCode (stateAt m) (Read o) ≡ k → isDone k ≡ false → a ≡ refusedAs k 0xFF → Acts (stateAt m) (Read o) m a
   unfolding ticksOf refusedValue
   read-refused k d f a = acts-refused (stateAt m) (Read o) k d f (g .packed) refl refl a
-
--- the port by its tests, as the code has them
-module _ {m : List ℕ} (g : IsImage m) {b : Bool} (e : b ≡ shutTo ((registersAt m) .dmacntrl0) false true) where
-  port-code : firstOf false false b false (ltb (getD m 24 0) 1) ≡ accessCode (stateAt m) (Read 0x16)
-  unfolding readAt table stateAt
-  port-code = ap (λ (x : Bool). firstOf false false x false (ltb (getD m 24 0) 1)) e ∙ read-code g 0x16
-
-  pub port-shut : b ≡ true → accessCode (stateAt m) (Read 0x16) ≡ Shut
-  port-shut h = sym (rw h at port-code)
-
-  pub port-short : b ≡ false → getD m 24 0 < 1 → accessCode (stateAt m) (Read 0x16) ≡ NoBytes
-  port-short h l = sym (rw (h, lt-ltb (getD m 24 0) 1 l) at port-code)
-
-  pub port-done : b ≡ false → 1 ≤ getD m 24 0 → accessCode (stateAt m) (Read 0x16) ≡ Done
-  port-done h l = sym (rw (h, le-ltb (getD m 24 0) 1 l) at port-code)
 
 -- "While ENSPCHK is 0, SCSIPERR is held at 0": all but that is done by the time it comes
 abbrev pub unheld : State → ℕ → State

@@ -1,5 +1,5 @@
 -- What a read of each register does beside the hold, and gives: the parts of A that are left out change nothing.
-use Prim.Native.Nat.{ℕ}
+use Prim.Native.Nat.{ℕ, _+_, _%_}
 use mathlib.Core.Path.{_≡_, refl, ap}
 use mathlib.Core.Bool.{Bool, false, _&&_}
 use mathlib.Core.List.{List}
@@ -15,8 +15,9 @@ use Rattle.rules.specs.StepA.{clears, clearsLatch, clrstcnt, clrch, rstfifo, la
 use Rattle.rules.specs.declared.map.Register.{Register}
 use Rattle.rules.specs.declared.map.Mapped.the-variants.{Present}
 use Rattle.rules.specs.declared.records.Event.the-variants.{Read}
-use Rattle.image.specs.Image.{stateAt, withTransfer, withStack, withIdentity}
+use Rattle.image.specs.Image.{stateAt, withStack, withIdentity}
 use Rattle.ports.specs.Ready.{withHost}
+use Rattle.acted.specs.Writes.{ackCounted}
 use Rattle.acted.proofs.ReadLaws.{unheld}
 
 module _ (s : State) where
@@ -24,16 +25,16 @@ module _ (s : State) where
   unfolding afterA linesAfter registersA transferA hostA counterA latchesA stackA identityA clears clearsLatch clrstcnt clrch rstfifo latchAccess automaticAck writes reads asked portWrite
   port-left = refl
 
-  pub latch-left : {acked : Bool} → acked ≡ automaticAck s (Read 0x06) → withTransfer (transferA acked (s .transfer) (Read 0x06)) s ≡ unheld s 0x06
-  unfolding afterA linesAfter registersA latchesA stackA identityA clears clearsLatch writes reads
-  latch-left q = ap (λ (b : Bool). withTransfer (transferA b (s .transfer) (Read 0x06)) s) q
+  pub latch-left : {acked : Bool} → acked ≡ automaticAck s (Read 0x06) → ackCounted acked s ≡ unheld s 0x06
+  unfolding afterA linesAfter registersA transferA hostA counterA latchesA stackA identityA clears clearsLatch clrstcnt clrch rstfifo writes reads asked portWrite
+  latch-left q = ap (λ (b : Bool). ackCounted b s) q
 
   pub stack-left : withStack (stackRead (s .registers .dmacntrl1 .enstk32) (s .stack)) s ≡ unheld s 0x1D
   unfolding afterA linesAfter registersA transferA hostA counterA latchesA stackA identityA clears clearsLatch clrstcnt clrch rstfifo latchAccess automaticAck writes reads asked portWrite
   stack-left = refl
 
-  pub identity-left : withIdentity (identityA (s .identity) (Read 0x1F)) s ≡ unheld s 0x1F
-  unfolding afterA linesAfter registersA transferA hostA counterA latchesA stackA clears clearsLatch clrstcnt clrch rstfifo latchAccess automaticAck writes reads asked portWrite
+  pub identity-left : withIdentity ((s .identity + 1) % 32) s ≡ unheld s 0x1F
+  unfolding afterA linesAfter registersA transferA hostA counterA latchesA stackA identityA clears clearsLatch clrstcnt clrch rstfifo latchAccess automaticAck writes reads asked portWrite
   identity-left = refl
 
   pub port-value : getD (s .transfer .host) 0 0 ≡ valueRead s (Read 0x16)

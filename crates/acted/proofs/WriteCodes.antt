@@ -1,36 +1,26 @@
--- The code of a write, by its offset and by the tests that the code makes.
+-- The code of a write, by its offset and, at the test registers, its value.
 use Prim.Native.Nat.{ℕ, _+_, _<_, _≤_}
 use mathlib.Core.Path.{_≡_, refl, sym, _∙_}
-use mathlib.Core.Bool.{Bool, true, false, not, _&&_, _||_, Bool·beq}
+use mathlib.Core.Bool.{true, false, not, _&&_, _||_}
 use mathlib.Core.List.{List}
 use native.Mathlib.Omega.{arith}
-use borrow.Author.Tests.{lt-ltb, le-ltb, eq-eqb, ne-eqb}
+use borrow.Author.Tests.{eq-eqb, ne-eqb}
 use lib.Dec.{eqb, ltb}
-use lib.ListN.{length, getD}
-use Rattle.rules.specs.Numbers.{bit}
-use Rattle.rules.specs.Map.{table, writtenAt, isMissing}
+use lib.ListN.{length}
+use Rattle.rules.specs.Map.{writtenAt, isMissing}
 use Rattle.rules.specs.State.{State}
 use Rattle.rules.specs.Codes.{accessCode}
-use Rattle.rules.specs.declared.codes.Code.the-variants.{Done, Shut, NoRoom, TestValue, Absent}
+use Rattle.rules.specs.declared.codes.Code.the-variants.{Done, TestValue, Absent}
 use Rattle.rules.specs.declared.map.Mapped.the-variants.{Missing}
 use Rattle.rules.specs.declared.records.Event.the-variants.{Write}
-use Rattle.checks.specs.CodeBy.{shutTo, firstOf}
-use Rattle.checks.proofs.Accesses as accesses
-use Rattle.checks.proofs.ByState.{access-code-by}
 use Rattle.image.specs.Image.{stateAt, IsImage}
+use Rattle.acted.specs.CodeBy.{shutTo, firstOf}
 use Rattle.acted.specs.Writes.{Leaving, kept}
-use Rattle.acted.proofs.Coding.{held-is}
+use Rattle.acted.proofs.Accesses as accesses
+use Rattle.acted.proofs.Coding.{code-is}
 
 pub write-code : (s : State) (o v : ℕ) → length (s .transfer .host) ≤ 128 → accessCode s (Write o v) ≡ firstOf (isMissing (writtenAt o)) ((eqb o 0x0E || eqb o 0x1E) && not (eqb v 0)) (eqb o 0x16 && shutTo (s .registers .dmacntrl0) false false) (eqb o 0x16 && ltb 128 (length (s .transfer .host) + 1)) false
-write-code s o v h = access-code-by s (Write o v) ∙ sym (accesses.written (s .registers .dmacntrl0) (length (s .transfer .host)) h o v)
-
-beq-false : (b : Bool) → not b ≡ Bool·beq b false
-beq-false true = refl
-beq-false false = refl
-
-pub shut-is : (m : List ℕ) → (not (bit (getD m 9 0) 7) || bit (getD m 9 0) 5 || not (bit (getD m 9 0) 6) || not (bit (getD m 9 0) 3)) ≡ shutTo ((stateAt m) .registers .dmacntrl0) false false
-unfolding stateAt
-shut-is m = rw (beq-false (bit (getD m 9 0) 6), beq-false (bit (getD m 9 0) 3))
+write-code s o v h = sym (code-is s (Write o v)) ∙ sym (accesses.written (s .registers .dmacntrl0) (length (s .transfer .host)) h o v)
 
 -- the two test registers, which store nothing
 pub record Test (o : ℕ) : Type 0 where
@@ -61,18 +51,3 @@ module _ {m : List ℕ} (g : IsImage m) (v : ℕ) where
 
     pub test-done : v ≡ 0 → accessCode s (Write o v) ≡ Done
     test-done h = write-code s o v (g .range .transfer .host) ∙ rw (t .found, t .named, t .apart, eq-eqb v 0 h)
-
-  -- the port: shut, full or open
-  port-code : accessCode s (Write 0x16 v) ≡ firstOf false false (shutTo (s .registers .dmacntrl0) false false) (ltb 128 (length (s .transfer .host) + 1)) false
-  unfolding table writtenAt
-  port-code = write-code s 0x16 v (g .range .transfer .host)
-
-  pub port-shut : shutTo (s .registers .dmacntrl0) false false ≡ true → accessCode s (Write 0x16 v) ≡ Shut
-  port-shut h = port-code ∙ rw h
-
-  module _ (h : shutTo (s .registers .dmacntrl0) false false ≡ false) where
-    pub port-full : 128 ≤ getD m 24 0 → accessCode s (Write 0x16 v) ≡ NoRoom
-    port-full l = port-code ∙ rw (h, lt-ltb 128 (length (s .transfer .host) + 1) (omega (arith, held-is g)))
-
-    pub port-done : getD m 24 0 < 128 → accessCode s (Write 0x16 v) ≡ Done
-    port-done l = port-code ∙ rw (h, le-ltb 128 (length (s .transfer .host) + 1) (omega (arith, held-is g)))

@@ -1,2 +1,3 @@
 pub mod Acting
+pub mod CodeBy
 pub mod Writes

@@ -28,7 +28,7 @@ pub fn interrupts_cleared(m: &mut [u8; 196], value: u8) -> Acted
     ensures { λ r. ⌜ Acts (stateAt (now (m .entry))) (Write (offsetOf CLRSINT1) value) (now (m .exit)) r ⌝ }
 {
     stored(m, Register::CLRSINT1, value);
-    status_written_in(m, false, false, 0x0C, value);
+    status_written_in(m, 0x0C, value);
     latches_written_in(m, 0x0C, value);
     done_with(0, 0)
 }
@@ -38,6 +38,6 @@ pub fn errors_cleared(m: &mut [u8; 196], value: u8) -> Acted
     requires { ⌜ IsImage (now m) ⌝ }
     ensures { λ r. ⌜ Acts (stateAt (now (m .entry))) (Write (offsetOf CLRSERR) value) (now (m .exit)) r ⌝ }
 {
-    status_written_in(m, false, false, 0x0F, value);
+    status_written_in(m, 0x0F, value);
     done_with(0, 0)
 }

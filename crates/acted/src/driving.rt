@@ -1,7 +1,8 @@
-// A line event: "lines others drive". Its eighteen bits stand in the record as they stand in the image.
+// Line events, "lines others drive", and ticks. The eighteen bits of lines stand in the record as they stand in the image.
 ghost use mathlib.Core.Path.{_≡_};
+ghost use Prim.Native.Nat.{_<_};
 ghost use Rattle.rules.specs.Records.{linesOf, payloadOf};
-ghost use Rattle.rules.specs.declared.records.Event.the-variants.{Drive};
+ghost use Rattle.rules.specs.declared.records.Event.the-variants.{Drive, Ticks};
 ghost use Rattle.image.specs.Image.{IsImage, imageOf, stateAt, withLines};
 ghost use Rattle.acted.specs.Acting.{Acts};
 use crate::Acted;
@@ -26,4 +27,14 @@ pub fn drive_in(m: &mut [u8; 196], high: u8, middle: u8, low: u8) -> Acted
     lines_put(m, high, middle, low);
     status_kept_in(m, false, false);
     done_with(0, 0)
+}
+
+// Ticks: B counts them.
+pub fn ticked(m: &mut [u8; 196], n: u32) -> Acted
+    requires { ⌜ IsImage (now m) ⌝ }
+    requires { ⌜ n < 16777216 ⌝ }
+    ensures { λ r. ⌜ Acts (stateAt (now (m .entry))) (Ticks n) (now (m .exit)) r ⌝ }
+{
+    status_kept_in(m, false, false);
+    done_with(0, n)
 }

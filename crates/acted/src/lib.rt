@@ -3,12 +3,11 @@ ghost use mathlib.Core.Path.{_≡_};
 ghost use Rattle.acted.specs.Acting.{refusedAs, doneWith};
 use rules::codes::Code;
 
-pub mod acting;
-pub mod clearing;
-pub mod coded;
+mod clearing;
 pub mod driving;
 pub mod porting;
 pub mod reading;
+mod scsidat;
 pub mod writing;
 
 // What A hands on: the code, the value and the ticks of the event, and whether the answer is ready, since it was refused.

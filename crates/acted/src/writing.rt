@@ -2,22 +2,21 @@
 ghost use mathlib.Core.Path.{_≡_};
 ghost use Rattle.rules.specs.Map.{offsetOf};
 ghost use Rattle.rules.specs.State.{State};
-ghost use Rattle.rules.specs.declared.map.Register.the-variants.{SXFRCTL0, SCSIDAT, STCNT0, STCNT1, STCNT2, SCSITEST, DMACNTRL0, DMACNTRL1, STACK, TEST};
+ghost use Rattle.rules.specs.declared.map.Register.the-variants.{SXFRCTL0, STCNT0, STCNT1, STCNT2, SCSITEST, DMACNTRL0, DMACNTRL1, STACK, TEST};
 ghost use Rattle.rules.specs.declared.records.Event.the-variants.{Write};
 ghost use Rattle.image.specs.Image.{IsImage, imageOf, stateAt};
 ghost use Rattle.stores.specs.Found.{Written};
 ghost use Rattle.acted.specs.Acting.{Acts};
-ghost use Rattle.acted.specs.Writes.{Plain, channelCleared, counterCleared, hostCleared, ackCounted};
+ghost use Rattle.acted.specs.Writes.{Plain, channelCleared, counterCleared, hostCleared};
 use crate::Acted;
-use crate::acting::automatic_ack;
 use crate::clearing::errors_cleared;
 use crate::clearing::interrupts_cleared;
 use crate::clearing::ready_cleared;
 use crate::done_with;
-use crate::porting::port_written;
+use crate::porting::byte_written;
 use crate::refused_as;
+use crate::scsidat::latch_filled;
 use flags::status::status_kept_in;
-use ports::counts::acknowledged;
 use ports::counts::counter_zeroed;
 use ports::counts::high_written;
 use ports::counts::low_written;
@@ -27,8 +26,8 @@ use ports::scsi::channel_cleared;
 use rules::codes::Code;
 use rules::map::Mapped;
 use rules::map::Register;
+use stores::stacking::pointed;
 use stores::stacking::pushed;
-use stores::stacking::stack_written;
 use stores::storing::stored;
 
 // A register that is only stored.
@@ -132,7 +131,7 @@ fn stack_control(m: &mut [u8; 196], value: u8) -> Acted
     requires { ⌜ IsImage (now m) ⌝ }
     ensures { λ r. ⌜ Acts (stateAt (now (m .entry))) (Write (offsetOf DMACNTRL1) value) (now (m .exit)) r ⌝ }
 {
-    stack_written(m, 0x13, value);
+    pointed(m, value);
     stored(m, Register::DMACNTRL1, value);
     status_kept_in(m, false, false);
     done_with(0, 0)
@@ -145,29 +144,6 @@ fn stack_pushed(m: &mut [u8; 196], value: u8) -> Acted
 {
     pushed(m, value);
     status_kept_in(m, false, false);
-    done_with(0, 0)
-}
-
-// An Automatic ACK "turns automatic ACK on, adds one to the counter".
-fn ack_by(m: &mut [u8; 196], acked: bool)
-    requires { ⌜ IsImage (now m) ⌝ }
-    ensures { λ _. ⌜ now (m .exit) ≡ imageOf (ackCounted acked (stateAt (now (m .entry)))) ⌝ }
-{
-    if acked {
-        acknowledged(m);
-    }
-}
-
-// "A write to 346h fills the latch."; with SPIORDY and IO not seen it is an access, which may be acknowledged.
-fn latch_filled(m: &mut [u8; 196], value: u8) -> Acted
-    requires { ⌜ IsImage (now m) ⌝ }
-    ensures { λ r. ⌜ Acts (stateAt (now (m .entry))) (Write (offsetOf SCSIDAT) value) (now (m .exit)) r ⌝ }
-{
-    let accessed = !((m[16] >> 6) % 2 == 1) & ((m[12] >> 7) % 2 == 1);
-    let acked = automatic_ack(m, accessed);
-    ack_by(m, acked);
-    stored(m, Register::SCSIDAT, value);
-    status_kept_in(m, accessed, acked);
     done_with(0, 0)
 }
 
@@ -208,7 +184,7 @@ fn write_found(m: &mut [u8; 196], register: Register, value: u8) -> Acted
         Register::SIMODE1 => plain_written(m, Register::SIMODE1, value),
         Register::DMACNTRL0 => dma_control(m, value),
         Register::DMACNTRL1 => stack_control(m, value),
-        Register::DMADATA => port_written(m, value),
+        Register::DMADATA => byte_written(m, value),
         Register::BRSTCNTRL => plain_written(m, Register::BRSTCNTRL, value),
         Register::STACK => stack_pushed(m, value),
         Register::TEST => test_written(m, value),

@@ -126,3 +126,13 @@ module _ (m : List ℕ) (g : IsImage m) (x : Seen) (e : seenOf m ≡ x) {ticks :
       ∙ ap (λ (n : ℕ). imageOf (withQuiet n s)) (h ∙ quiet-still s)
       ∙ ap imageOf (sym (still-applied s))
       ∙ (λ i. imageOf (appliedFrom (edgesFrom (rst-is i) (req-is i) s (sym t i)) (mismatched-is i) s))
+
+  -- quiet ticks that nothing adds to stay
+  pub seen-unchanged : (bsySeen (registersB false false false (registersAt m)) (linesAt m) || selSeen (registersB false false false (registersAt m)) (linesAt m)) ≡ false → m ≡ imageOf (appliedFrom (edgesFrom (rstOf x) (reqOf x) s ticks) (mismatchedOf x) s)
+  unfolding stateAt
+  seen-unchanged h =
+      let q : getD m 20 0 ≡ min 8 (getD m 20 0 + 0) = omega (arith, g .range .quiet) in
+      g .packed
+      ∙ ap (λ (n : ℕ). imageOf (withQuiet n s)) (rw h q ∙ quiet-still s)
+      ∙ ap imageOf (sym (still-applied s))
+      ∙ (λ i. imageOf (appliedFrom (edgesFrom (rst-is i) (req-is i) s (sym t i)) (mismatched-is i) s))

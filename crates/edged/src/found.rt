@@ -112,7 +112,7 @@ pub fn late_byte(m: &[u8; 196], counted: bool) -> bool
 }
 
 // BSY or SEL seen, where a bus reset in the same event has taken the chip's own away.
-fn busy(m: &[u8; 196], reset: bool) -> bool
+pub fn busy(m: &[u8; 196], reset: bool) -> bool
     ensures { λ b. ⌜ b ≡ (bsySeen (registersB reset false false (registersAt (now (m .entry)))) (linesAt (now (m .entry))) || selSeen (registersB reset false false (registersAt (now (m .entry)))) (linesAt (now (m .entry)))) ⌝ }
 {
     (((m[16] >> 2) % 2 == 1) | (!reset & ((m[3] >> 2) % 2 == 1)))

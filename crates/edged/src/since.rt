@@ -7,7 +7,7 @@ ghost use Rattle.image.specs.Image.{imageOf, stateAt, IsImage};
 ghost use Rattle.edged.specs.From.{edgesFrom, appliedFrom};
 ghost use Rattle.edged.specs.Since.{seenOf, rstOf, reqOf, mismatchedOf};
 use crate::edges_in;
-use crate::found::quiet_after;
+use crate::found::busy;
 use crate::last::Before;
 use crate::last::Seen;
 use crate::last_seen;
@@ -49,12 +49,11 @@ pub fn edges_since(m: &mut [u8; 196], x: Seen, ticks: u32) -> bool
     ensures { λ b. ⌜ b ≡ (edgesFrom (rstOf x) (reqOf x) (stateAt (now (m .entry))) ticks) .beyond ⌝ }
     ensures { λ _. ⌜ now (m .exit) ≡ imageOf (appliedFrom (edgesFrom (rstOf x) (reqOf x) (stateAt (now (m .entry))) ticks) (mismatchedOf x) (stateAt (now (m .entry)))) ⌝ }
 {
-    if is_same(m, x) {
-        if ticks == 0 {
-            let quiet = quiet_after(m, false, 0);
-            m[20] = quiet;
-            return false;
+    if is_same(m, x) & (ticks == 0) {
+        if busy(m, false) {
+            m[20] = 0;
         }
+        return false;
     }
     let was = before_of(x);
     edges_in(m, was, ticks)

@@ -1,18 +1,16 @@
 -- Bytes with their count, in a FIFO or in what was sent: each law once, over the type.
 use Prim.Native.Nat.{ℕ, _+_, _-_, _<_, _≤_, min}
-use mathlib.Core.Path.{_≡_, refl, ap, sym, _∙_}
+use mathlib.Core.Path.{_≡_, refl, ap, _∙_}
 use mathlib.Core.List.{List, [], _∷_, _++_}
 use native.Mathlib.Omega.{arith}
-use lib.ListN.{length, take, drop, set, getD, replicate, length-append, length-drop}
-use lib.Seq.{getD-take, length-take-le}
+use lib.ListN.{length, take, drop, set, replicate, length-append}
 use Rattle.rules.specs.Numbers.{padded}
-use Rattle.rules.specs.Chips.{hostOf}
 use Rattle.rules.specs.declared.chip.HostFifo.{HostFifo}
 use Rattle.rules.specs.declared.chip.ScsiFifo.{ScsiFifo}
 use Rattle.fifos.specs.declared.sent.Sent.{Sent}
 use Rattle.fifos.specs.Fifos.{sentOf}
 use Rattle.laws.proofs.Lists as lists
-use Rattle.fifos.proofs.Copied.{Copied, zeros, begun, ended}
+use Rattle.fifos.proofs.Copied.{zeros}
 
 -- a type whose values keep bytes with their count, and its number of places
 pub record Counted (F : Type 0) : Type 0 where
@@ -50,31 +48,13 @@ module _ {F : Type 0} (t : Counted F) where
   pub empty : t .make (replicate (t .places) 0) 0 ≡ form t []
   empty = formed [] (zeros (t .places)) refl
 
-  pub joined : {m : ℕ} {l s : List ℕ} {k : ℕ} {out : List ℕ} {i : ℕ} → Copied (t .places) m l s k out i → k ≤ i → t .make out (m + k) ≡ form t (l ++ take k s)
-  joined {m} {l} {s} {k} c h =
-      let e : length (take k s) ≡ k = length-take-le k s (c .enough) in
-      formed (l ++ take k s) (ended c h) (simp length-append (omega arith))
-
-  -- the value of a list
-  pub view-of : (f : F) (l : List ℕ) → f ≡ form t l → view t f ≡ l
-  view-of = lists.view-of F (t .places) (t .bytes) (t .count) (form t) (λ l. t .make-bytes _ _) (λ l. t .make-count _ _)
-
-  pub tidy-of : (f : F) (l : List ℕ) → f ≡ form t l → Tidy t f
-  tidy-of = lists.tidy-of F (t .places) (t .bytes) (t .count) (form t) (λ l. t .make-bytes _ _) (λ l. t .make-count _ _)
-
-  pub count-of : (f : F) (l : List ℕ) → f ≡ form t l → t .count f ≡ length l
+  count-of : (f : F) (l : List ℕ) → f ≡ form t l → t .count f ≡ length l
   count-of = lists.count-of F (t .places) (t .bytes) (t .count) (form t) (λ l. t .make-bytes _ _) (λ l. t .make-count _ _)
 
   bytes-of : (f : F) (l : List ℕ) → f ≡ form t l → t .bytes f ≡ padded (t .places) l
   bytes-of = lists.bytes-of F (t .places) (t .bytes) (t .count) (form t) (λ l. t .make-bytes _ _) (λ l. t .make-count _ _)
 
   module _ (f : F) where
-    pub shown : (j : ℕ) → j < t .count f → getD (t .bytes f) j 0 ≡ getD (view t f) j 0
-    shown j h = sym (getD-take (t .count f) (t .bytes f) j 0 h)
-
-    pub past-shown : (j : ℕ) → t .count f ≤ j → 0 ≡ getD (view t f) j 0
-    past-shown j h = lists.shown-none (t .count f) j (t .bytes f) h
-
     -- any count, of which m can be there
     module _ (m k : ℕ) (e : length (t .bytes f) ≡ t .places) (p : m ≡ min (t .count f) (t .places)) where
       pub popped-all : m < k → form t [] ≡ form t (drop k (view t f))
@@ -87,32 +67,16 @@ module _ {F : Type 0} (t : Counted F) where
 
   -- a value in its one form
   module _ (f : F) (e : Tidy t f) where
-    pub held : t .count f ≡ length (view t f)
+    held : t .count f ≡ length (view t f)
     held = count-of f (view t f) e
 
     filled : t .bytes f ≡ padded (t .places) (view t f)
     filled = bytes-of f (view t f) e
 
-    -- an array holds no more than its places
-    pub within : length (t .bytes f) ≡ t .places → t .count f ≤ t .places
-    within n = lists.count-fits (t .places) (t .count f) (t .bytes f) n held
-
-    pub behind : (s : List ℕ) (k : ℕ) → t .count f + k ≤ t .places → k ≤ length s → Copied (t .places) (t .count f) (view t f) s k (t .bytes f) 0
-    behind s k h n = begun (t .places) (t .count f) (view t f) s k filled held h n
-
     pub pushed : (b : ℕ) → t .count f < t .places → t .make (set (t .bytes f) (t .count f) b) (t .count f + 1) ≡ form t (view t f ++ (b ∷ []))
     pushed b h =
         formed (view t f ++ (b ∷ [])) (lists.push-at (t .places) (t .count f) (t .bytes f) b filled held h) (simp length-append (omega (arith, held)))
 
-    -- all places moved up by k, of which as many are held
-    pub shifted : (k : ℕ) → length (t .bytes f) ≡ t .places → k ≤ t .count f → {w : List ℕ} → w ≡ padded (t .places) (take (t .places - k) (drop k (t .bytes f))) → t .make w (t .count f - k) ≡ form t (drop k (view t f))
-    shifted k n h p =
-        let d : padded (t .places) (take (t .places - k) (drop k (padded (t .places) (view t f)))) ≡ padded (t .places) (drop k (view t f)) = lists.padded-shift (t .places) k (view t f) (omega (arith, held)) (omega (arith, held, within n)) in
-        formed (drop k (view t f)) (p ∙ ap (λ (l : List ℕ). padded (t .places) (take (t .places - k) (drop k l))) filled ∙ d) (simp length-drop (omega (arith, held)))
-
--- at the types that other crates count
-pub host-count : (f : HostFifo) (l : List ℕ) → f ≡ hostOf l → f .count ≡ length l
-host-count = count-of host-fifo
-
+-- at the type that another crate counts
 pub sent-count : (f : Sent) (l : List ℕ) → f ≡ sentOf l → f .count ≡ length l
 sent-count = count-of bytes-sent

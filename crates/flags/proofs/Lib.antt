@@ -2,4 +2,4 @@ pub mod Falling
 pub mod Placed
 pub mod Raising
 pub mod Steady
-pub mod Unwritten
+pub mod Idle

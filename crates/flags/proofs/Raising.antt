@@ -1,10 +1,14 @@
 -- SPIORDY and FWERR rise, or the status stays.
 use Prim.Native.Nat.{ℕ}
 use mathlib.Core.Path.{_≡_, refl}
-use mathlib.Core.Bool.{Bool, true, false, not, _||_, false≢true}
+use mathlib.Core.Bool.{Bool, true, false, not, _&&_, _||_, false≢true}
 use mathlib.Core.List.{List}
 use lib.ListN.{getD}
+use Rattle.rules.specs.State.{Transfer}
+use Rattle.rules.specs.Seen.{automatic, normal, matched, reqSeen, path}
 use Rattle.rules.specs.StepD.{fifoConflict, pioReady, statusRaised}
+use Rattle.rules.specs.declared.registers.Registers.{Registers}
+use Rattle.rules.specs.declared.records.Lines.{Lines}
 use Rattle.rules.specs.declared.chip.Status.{Status}
 use Rattle.image.specs.Image.{stateAt, registersAt, linesAt, transferAt, statusOf}
 
@@ -21,10 +25,14 @@ raisedBy ready conflict t =
       fwerr = conflict || t .fwerr;
     }
 
-pub unraised : (ready conflict : Bool) (t : Status) → not (ready || conflict) ≡ true → t ≡ raisedBy ready conflict t
-unraised true conflict t h = absurd (false≢true h)
-unraised false true t h = absurd (false≢true h)
-unraised false false t h = refl
+-- SPIORDY rises in Automatic mode, FWERR in Normal mode
+exclusive : (spio dma a b c x y : Bool) → (spio && not dma && a && b && c) ≡ true → (not spio && dma && x && y) ≡ false
+exclusive true dma a b c x y h = refl
+exclusive false dma a b c x y h = absurd (false≢true h)
+
+pub no-conflict : (r : Registers) (l : Lines) (t : Transfer) → pioReady r l t ≡ true → fifoConflict r ≡ false
+unfolding pioReady fifoConflict automatic normal
+no-conflict r l t h = exclusive (r .sxfrctl0 .spioen) (r .sxfrctl0 .dmaen) (matched r l) (reqSeen r l) (not (t .ack)) (r .sxfrctl0 .scsien) (not (path r)) h
 
 pub raised-at : (m : List ℕ) {ready conflict : Bool} {t : Status} → ready ≡ pioReady (registersAt m) (linesAt m) (transferAt m) → conflict ≡ fifoConflict (registersAt m) → t ≡ statusOf (getD m 12 0) → raisedBy ready conflict t ≡ statusRaised (stateAt m .registers) (stateAt m .lines) (stateAt m .transfer) (stateAt m .status)
 unfolding statusRaised stateAt

@@ -15,7 +15,6 @@ use registers::bytes::simode1_of;
 use rules::chip::Latches;
 use rules::chip::Status;
 use rules::map::Register;
-use rules::records::Event;
 use rules::registers::Simode0;
 use rules::registers::Simode1;
 
@@ -42,29 +41,13 @@ fn latches_written(k: Latches, offset: u8, value: u8) -> Latches
     }
 }
 
-// Most writes are to other registers.
+// A write of 34Bh or 34Ch.
 pub fn latches_written_in(m: &mut [u8; 196], offset: u8, value: u8)
     requires { ⌜ IsImage (now m) ⌝ }
     ensures { λ _. ⌜ now (m .exit) ≡ imageOf (withLatches (latchesA ((stateAt (now (m .entry))) .latches) (Write offset value)) (stateAt (now (m .entry)))) ⌝ }
 {
-    let clears = offset == map::offset_of(Register::CLRSINT1);
-    let ready = offset == map::offset_of(Register::CLRSINT0);
-    if !(clears | ready) {
-        return;
-    }
     let k = latches_written(latches_of(m[13]), offset, value);
     latches_put(m, k);
-}
-
-// Only a write clears a latch.
-pub fn latches_in(m: &mut [u8; 196], e: Event)
-    requires { ⌜ IsImage (now m) ⌝ }
-    ensures { λ _. ⌜ now (m .exit) ≡ imageOf (withLatches (latchesA ((stateAt (now (m .entry))) .latches) e) (stateAt (now (m .entry)))) ⌝ }
-{
-    match e {
-        Event::Write { offset, value } => latches_written_in(m, offset, value),
-        _ => {}
-    }
 }
 
 // "A latch sets when its status rises ... while enabled, or when the enable rises while status is 1."

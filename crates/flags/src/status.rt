@@ -1,5 +1,6 @@
 // The status byte, place 12.
 ghost use mathlib.Core.Path.{_≡_};
+ghost use mathlib.Core.Bool.{false};
 ghost use Rattle.rules.specs.Seen.{ackSeen};
 ghost use Rattle.rules.specs.StepA.{statusA};
 ghost use Rattle.rules.specs.StepD.{fifoConflict, pioReady, statusRaised, statusD};
@@ -14,7 +15,6 @@ use image::bytes::status_byte;
 use image::bytes::status_of;
 use rules::chip::Status;
 use rules::map::Register;
-use rules::records::Event;
 
 fn status_put(m: &mut [u8; 196], t: Status)
     requires { ⌜ IsImage (now m) ⌝ }
@@ -24,25 +24,18 @@ fn status_put(m: &mut [u8; 196], t: Status)
 }
 
 // "A write to 34Ch clears the named status bits and latches"; "34Fh clears errors."
-fn status_written(
-    accessed: bool,
-    acked: bool,
-    enspchk: bool,
-    t: Status,
-    offset: u8,
-    value: u8,
-) -> Status
-    ensures { λ n. ⌜ n ≡ statusA accessed acked enspchk t (Write offset value) ⌝ }
+fn status_written(enspchk: bool, t: Status, offset: u8, value: u8) -> Status
+    ensures { λ n. ⌜ n ≡ statusA false false enspchk t (Write offset value) ⌝ }
 {
     let clears = offset == map::offset_of(Register::CLRSINT1);
     let errors = offset == map::offset_of(Register::CLRSERR);
     Status {
-        spiordy: !accessed & t.spiordy,
+        spiordy: t.spiordy,
         scsirsti: !(clears & ((value >> 5) % 2 == 1)) & t.scsirsti,
         busfree: !(clears & ((value >> 3) % 2 == 1)) & t.busfree,
         scsiperr: !(clears & ((value >> 2) % 2 == 1)) & enspchk & t.scsiperr,
         phasechg: !(clears & ((value >> 1) % 2 == 1)) & t.phasechg,
-        reqinit: !(clears & ((value >> 0) % 2 == 1)) & !acked & t.reqinit,
+        reqinit: !(clears & ((value >> 0) % 2 == 1)) & t.reqinit,
         syncerr: !(errors & ((value >> 2) % 2 == 1)) & t.syncerr,
         fwerr: !(errors & ((value >> 1) % 2 == 1)) & t.fwerr,
     }
@@ -73,31 +66,14 @@ pub fn status_kept_in(m: &mut [u8; 196], accessed: bool, acked: bool)
     status_put(m, t);
 }
 
-// Most writes are to other registers.
-pub fn status_written_in(m: &mut [u8; 196], accessed: bool, acked: bool, offset: u8, value: u8)
+// A write of 34Ch or 34Fh.
+pub fn status_written_in(m: &mut [u8; 196], offset: u8, value: u8)
     requires { ⌜ IsImage (now m) ⌝ }
-    ensures { λ _. ⌜ now (m .exit) ≡ imageOf (withStatus (statusA accessed acked ((stateAt (now (m .entry))) .registers .sxfrctl1 .enspchk) ((stateAt (now (m .entry))) .status) (Write offset value)) (stateAt (now (m .entry)))) ⌝ }
+    ensures { λ _. ⌜ now (m .exit) ≡ imageOf (withStatus (statusA false false ((stateAt (now (m .entry))) .registers .sxfrctl1 .enspchk) ((stateAt (now (m .entry))) .status) (Write offset value)) (stateAt (now (m .entry)))) ⌝ }
 {
-    let clears = offset == map::offset_of(Register::CLRSINT1);
-    let errors = offset == map::offset_of(Register::CLRSERR);
-    if !(clears | errors) {
-        status_kept_in(m, accessed, acked);
-        return;
-    }
     let enspchk = (m[2] >> 5) % 2 == 1;
-    let t = status_written(accessed, acked, enspchk, status_of(m[12]), offset, value);
+    let t = status_written(enspchk, status_of(m[12]), offset, value);
     status_put(m, t);
-}
-
-// Only a write clears by its value.
-pub fn status_in(m: &mut [u8; 196], accessed: bool, acked: bool, e: Event)
-    requires { ⌜ IsImage (now m) ⌝ }
-    ensures { λ _. ⌜ now (m .exit) ≡ imageOf (withStatus (statusA accessed acked ((stateAt (now (m .entry))) .registers .sxfrctl1 .enspchk) ((stateAt (now (m .entry))) .status) e) (stateAt (now (m .entry)))) ⌝ }
-{
-    match e {
-        Event::Write { offset, value } => status_written_in(m, accessed, acked, offset, value),
-        _ => status_kept_in(m, accessed, acked),
-    }
 }
 
 // "Each ACK ... clears REQINIT." "REQINIT also falls when ACK is seen."
@@ -143,18 +119,20 @@ fn pio_ready(m: &[u8; 196]) -> bool
     }
 }
 
-// What each status rose to in the event.
+// What each status rose to in the event: SPIORDY in Automatic mode, or FWERR in Normal mode.
 pub fn raised_in(m: &mut [u8; 196])
     requires { ⌜ IsImage (now m) ⌝ }
     ensures { λ _. ⌜ now (m .exit) ≡ imageOf (withStatus (statusRaised ((stateAt (now (m .entry))) .registers) ((stateAt (now (m .entry))) .lines) ((stateAt (now (m .entry))) .transfer) ((stateAt (now (m .entry))) .status)) (stateAt (now (m .entry)))) ⌝ }
 {
-    let ready = pio_ready(m);
-    let conflict = fifo_conflict(m);
-    if !(ready | conflict) {
+    if pio_ready(m) {
+        let mut t = status_of(m[12]);
+        t.spiordy = true;
+        status_put(m, t);
         return;
     }
-    let mut t = status_of(m[12]);
-    t.spiordy = ready | t.spiordy;
-    t.fwerr = conflict | t.fwerr;
-    status_put(m, t);
+    if fifo_conflict(m) {
+        let mut t = status_of(m[12]);
+        t.fwerr = true;
+        status_put(m, t);
+    }
 }

@@ -2,7 +2,7 @@
 ghost use mathlib.Core.Path.{_≡_};
 ghost use Prim.Native.Nat.{_+_, _*_};
 ghost use lib.ListN.{getD};
-ghost use Rattle.rules.specs.Reads.{readOf, readMapped, valueRead};
+ghost use Rattle.rules.specs.Reads.{readOf};
 ghost use Rattle.rules.specs.Registers.{dmacntrl1Byte};
 ghost use Rattle.image.specs.Image.{IsImage, stateAt};
 use crate::status::dmastat;
@@ -15,10 +15,7 @@ use crate::status::sstat3;
 use crate::status::sstat4;
 use crate::status::stack_byte;
 use image::bus::data_seen;
-use map::register_at;
-use rules::map::Mapped;
 use rules::map::Register;
-use rules::records::Event;
 
 // 353h: the two bits and the pointer stand apart.
 fn dmacntrl1(m: &[u8; 196]) -> u8
@@ -64,17 +61,6 @@ pub fn read_register(m: &[u8; 196], register: Register) -> u8
     }
 }
 
-// What a read finds, 0 where there is nothing.
-fn read_mapped(m: &[u8; 196], found: Mapped) -> u8
-    requires { ⌜ IsImage (now m) ⌝ }
-    ensures { λ r. ⌜ r ≡ readMapped (stateAt (now (m .entry))) found ⌝ }
-{
-    match found {
-        Mapped::Present(register) => read_register(m, register),
-        Mapped::Missing => 0,
-    }
-}
-
 // "A word's low byte comes first."
 fn word(low: u8, high: u8) -> u16
     ensures { λ r. ⌜ r ≡ low + 256 * high ⌝ }
@@ -83,28 +69,9 @@ fn word(low: u8, high: u8) -> u16
 }
 
 // The two oldest bytes of the host FIFO, 0 for each that is missing.
-fn oldest_word(m: &[u8; 196]) -> u16
+pub fn oldest_word(m: &[u8; 196]) -> u16
     requires { ⌜ IsImage (now m) ⌝ }
     ensures { λ r. ⌜ r ≡ getD ((stateAt (now (m .entry))) .transfer .host) 0 0 + 256 * getD ((stateAt (now (m .entry))) .transfer .host) 1 0 ⌝ }
 {
     word(m[68], m[69])
-}
-
-// The value of an event that is done: "what was read, else 0".
-pub fn value_read(m: &[u8; 196], e: Event) -> u16
-    requires { ⌜ IsImage (now m) ⌝ }
-    ensures { λ r. ⌜ r ≡ valueRead (stateAt (now (m .entry))) e ⌝ }
-{
-    match e {
-        Event::PowerReset => 0,
-        Event::Write {
-            offset: _,
-            value: _,
-        } => 0,
-        Event::Read { offset } => read_mapped(m, register_at(offset, false)) as u16,
-        Event::WordWrite(_) => 0,
-        Event::WordRead => oldest_word(m),
-        Event::Drive(_) => 0,
-        Event::Ticks(_) => 0,
-    }
 }

@@ -8,6 +8,6 @@ pub extern "C" fn rabenteig_run(records: &[u8], answers: &mut [u8]) -> usize
     ensures { λ r. ⌜ IsRunFromReset (now (records .entry)) (now (answers .entry)) (now (answers .exit)) r ⌝ }
 {
     let chip = power_reset();
-    let ran = turns::run::run(chip, records, answers);
+    let ran = step::run::run(chip, records, answers);
     ran.count
 }

@@ -298,9 +298,9 @@ module _ (s : State) (f : InRange s) where
   pub stack-back : take 32 (drop 36 (imageOf s)) ≡ s .stack .bytes
   stack-back = rw stack-at (take-at (s .stack .bytes) (padded 128 (s .transfer .host)) 32 (f .stack .size))
 
-  pub read-back : InBytes s → stateAt (imageOf s) ≡ s
+  pub read-back : stateAt (imageOf s) ≡ s
   unfolding stateAt imageOf
-  read-back b =
+  read-back =
       λ i.
       record {
         lines = lines-back s i;
@@ -315,5 +315,5 @@ module _ (s : State) (f : InRange s) where
 
   pub is-image : InBytes s → IsImage (imageOf s)
   is-image b =
-      let e : s ≡ stateAt (imageOf s) = sym (read-back b) in
+      let e : s ≡ stateAt (imageOf s) = sym read-back in
       record { packed = ap imageOf e; range = subst InRange e f; bytes = subst InBytes e b }

@@ -113,11 +113,12 @@ pub fn ack_seen(m: &[u8; 196]) -> bool
 pub fn driving(m: &[u8; 196]) -> bool
     ensures { λ b. ⌜ b ≡ driving (registersAt (now (m .entry))) (linesAt (now (m .entry))) (transferAt (now (m .entry))) ⌝ }
 {
-    if (m[16] >> 6) % 2 == 1 {
-        return false;
-    }
-    if connected(m) {
-        manual(m) | automatic(m) | (normal(m) & (m[18] == 1))
+    if manual(m) | automatic(m) | (normal(m) & (m[18] == 1)) {
+        if (m[16] >> 6) % 2 == 1 {
+            false
+        } else {
+            connected(m)
+        }
     } else {
         false
     }

@@ -1,7 +1,6 @@
 -- An image is what stands before the host FIFO, and the host FIFO's places.
 use Prim.Native.Nat.{ℕ, _+_, _-_, _<_, _≤_}
 use mathlib.Core.Path.{_≡_, refl, ap, sym, _∙_}
-use mathlib.Core.Bool.{Bool, true, false, cond}
 use mathlib.Core.List.{List, [], _∷_, _++_, append-assoc}
 use native.Mathlib.Omega.{arith}
 use native.Mathlib.Nat.{zero-add, suc-add, add-assoc}
@@ -11,7 +10,7 @@ use Rattle.rules.specs.Numbers.{padded}
 use Rattle.rules.specs.State.{State}
 use Rattle.laws.proofs.Lists.{padded-push, padded-length}
 use Rattle.image.specs.Image.{imageOf, headOf, stateAt, IsImage}
-use Rattle.ports.specs.Ready.{Placed, Imaged, withHost, withScsi, withOffset}
+use Rattle.ports.specs.Ready.{Placed, withHost}
 
 abbrev pub frontOf : State → List ℕ
 frontOf s = headOf s ++ padded 8 (s .transfer .scsi) ++ s .stack .bytes
@@ -137,14 +136,6 @@ module _ {m : List ℕ} {s : State} (p : Placed s) (e : m ≡ imageOf s) where
       let i : k ≤ length (s .transfer .host) = omega arith in
       rw (g, f, n, e) (host-popped s k p i)
 
-  -- no more than there are
-  pub all-off : (k : ℕ) → getD m 24 0 ≤ k → drop (getD m 24 0) (s .transfer .host) ≡ drop k (s .transfer .host)
-  all-off k h =
-      let l : List ℕ = s .transfer .host in
-      let i : length l ≤ getD m 24 0 = omega (arith, counted) in
-      let j : length l ≤ k = omega arith in
-      drop-of-length-le l i ∙ sym (drop-of-length-le l j)
-
   pub none-left : drop (getD m 24 0) (s .transfer .host) ≡ []
   none-left =
       let i : length (s .transfer .host) ≤ getD m 24 0 = omega (arith, counted) in
@@ -169,13 +160,5 @@ moved-length m at k n e q h =
 pub with-host : (s : State) (l : List ℕ) → Placed s → length l ≤ 128 → Placed (withHost l s)
 with-host s l p h = record { host = h; scsi = p .scsi; stack = p .stack; counter = p .counter }
 
--- the channel, cleared or not
-pub with-channel : (s : State) (b : Bool) → Placed s → Placed (withOffset (cond b 0 (s .transfer .offset)) (withScsi (cond b [] (s .transfer .scsi)) s))
-with-channel s true p = record { host = p .host; scsi = omega arith; stack = p .stack; counter = p .counter }
-with-channel s false p = record { host = p .host; scsi = p .scsi; stack = p .stack; counter = p .counter }
-
 pub placed-at : (m : List ℕ) → IsImage m → Placed (stateAt m)
 placed-at m i = record { host = i .range .transfer .host; scsi = i .range .transfer .scsi; stack = i .range .stack .size; counter = i .range .transfer .counter }
-
-pub imaged-at : (m : List ℕ) → IsImage m → Imaged m
-imaged-at m i = record { state = stateAt m; placed = placed-at m i; made = i .packed }

@@ -1,4 +1,3 @@
 pub mod Pasted
 pub mod Fronts
 pub mod Heads
-pub mod Accesses

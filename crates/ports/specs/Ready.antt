@@ -1,22 +1,12 @@
--- What step A needs of a state and an event, and the state with one part of its data path another.
-use Prim.Native.Nat.{ℕ, _+_, _≤_, _<_}
+-- A state that fits the places of an image, and a state with one part of its data path another.
+use Prim.Native.Nat.{ℕ, _≤_, _<_}
 use mathlib.Core.Path.{_≡_}
 use mathlib.Core.Bool.{Bool}
 use mathlib.Core.List.{List}
-use lib.ListN.{length, getD}
+use lib.ListN.{length}
 use Rattle.rules.specs.State.{State}
 use Rattle.rules.specs.Counter.{counterSize}
-use Rattle.rules.specs.Events.{offered}
-use Rattle.rules.specs.declared.records.Event.{Event}
-use Rattle.image.specs.Image.{imageOf, withTransfer}
-
--- the host FIFO has room for what the event offers to the port
-abbrev pub Room : List ℕ → Event → Type 0
-Room host e = length host + length (offered e) ≤ 128
-
--- the same by the count of an image
-abbrev pub RoomAt : List ℕ → Event → Type 0
-RoomAt m e = getD m 24 0 + length (offered e) ≤ 128
+use Rattle.image.specs.Image.{withTransfer}
 
 -- the FIFOs, the stack and the counter fit their places
 pub record Placed (s : State) : Type 0 where
@@ -24,12 +14,6 @@ pub record Placed (s : State) : Type 0 where
   pub scsi : length (s .transfer .scsi) ≤ 8
   pub stack : length (s .stack .bytes) ≡ 32
   pub counter : s .transfer .counter < counterSize
-
--- an array that is the image of some such state
-pub record Imaged (m : List ℕ) : Type 0 where
-  pub state : State
-  pub placed : Placed state
-  pub made : m ≡ imageOf state
 
 abbrev pub withHost : List ℕ → State → State
 withHost l s =

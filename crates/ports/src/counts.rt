@@ -42,7 +42,7 @@ fn joined(low: u8, middle: u8, high: u8) -> u32
 }
 
 // "adds one to the counter", modulo 16,777,216
-pub fn one_more(m: &mut [u8; 196])
+fn one_more(m: &mut [u8; 196])
     ensures { λ _. ⌜ ((s : State) → Placed s → now (m .entry) ≡ imageOf s → now (m .exit) ≡ imageOf (withCounter (counted (s .transfer .counter)) s)) ⌝ }
 {
     let n = counter::counted(joined(m[25], m[26], m[27]));

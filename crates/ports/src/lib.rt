@@ -1,6 +1,5 @@
-// Step A's effect on the data path, in place: the two FIFOs, the counter, the offset and the automatic ACK.
+// What A changes of the data path, in place: the two FIFOs, the counter, the offset and the automatic ACK.
 pub mod counts;
 pub mod host;
-pub mod paths;
-pub mod places;
+mod places;
 pub mod scsi;

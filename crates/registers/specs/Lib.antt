@@ -1,2 +1,1 @@
-pub mod Acking
 pub mod OffsetCount

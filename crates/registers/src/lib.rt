@@ -1,8 +1,7 @@
-// The stored registers as bytes, the lines and words of the bus that they make, and SSTAT3.
+// The stored registers as bytes, and SSTAT3.
 ghost use mathlib.Core.Path.{_≡_};
 ghost use Rattle.registers.specs.OffsetCount.{sstat3Of};
 
-pub mod bus;
 pub mod bytes;
 
 // SSTAT3: the difference may go below zero, and wraps.

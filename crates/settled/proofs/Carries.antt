@@ -8,7 +8,7 @@ use lib.ListN.{length, take, drop, set, getD, length-append, length-drop}
 use lib.Seq.{paste, length-paste, length-take-le}
 use Rattle.rules.specs.State.{State}
 use Rattle.rules.specs.Ranges.{InRange}
-use Rattle.settling.specs.Settled.{carried}
+use Rattle.settled.specs.Parts.{carried}
 use Rattle.image.specs.Image.{headOf, imageOf, stateAt, IsImage, withTransfer}
 use Rattle.settled.specs.Laid.{laid, lowered}
 use Rattle.settled.proofs.Places.{Sized, image-laid, scsi-joined, host-joined, scsi-lowered, host-lowered, scsi-from, host-from, counts-set}

@@ -15,7 +15,7 @@ use Rattle.rules.specs.declared.chip.Conditions.{Conditions}
 use Rattle.rules.proofs.Logic.{never}
 use Rattle.rules.proofs.Rest.{settling-reports}
 use Rattle.fifos.specs.Fifos.{sentOf}
-use Rattle.settling.specs.Settled.{startOf}
+use Rattle.settled.specs.Parts.{startOf, movable, carried}
 use Rattle.image.specs.Image.{imageOf, stateAt, IsImage, withTransfer}
 use Rattle.settled.specs.declared.Told.{Told}
 use Rattle.settled.specs.Looks.{lookedAt, mayShake}
@@ -52,6 +52,11 @@ module _ (s : State) where
       let c : Conditions = conditions s in
       none-can (c .enabled) (c .synchronous) (ltb 0 (t .offset)) (cond (c .outbound) (ltb 0 (length (t .scsi))) (ltb (length (t .scsi)) (t .offset)))
       (c .req) (not (t .ack)) (cond (c .outbound) (ltb 0 (length (t .scsi))) (ltb (length (t .scsi)) 8)) h
+
+-- moves leave what a handshake waits for
+moves-leave : (s : State) (o : Bool) (k : ℕ) → mayShake (stateAt (imageOf (withTransfer (carried o k (s .transfer)) s))) ≡ mayShake (stateAt (imageOf s))
+unfolding mayShake stateAt imageOf carried
+moves-leave s o k = refl
 
 -- a moves more
 abbrev after : ℕ → Settling → Settling
@@ -106,10 +111,15 @@ module _ (x : List ℕ) (i : IsImage x) where
     looked : (m′ : List ℕ) (r : Told) → Settles x c m′ r → Settles x (conditions (stateAt x)) m′ r
     looked m′ r = same-end x c (conditions (stateAt x)) m′ r (ap (endOf x) e ∙ looked-ends (stateAt x) turns (startOf ((stateAt x) .transfer)))
 
-    pub moves-settle : mayShake (stateAt m) ≡ false → Settles x (conditions (stateAt x)) m (record { sent = padded 8 []; moves = a; acks = 0 })
+    as-before : mayShake (stateAt m) ≡ mayShake (stateAt x)
+    as-before =
+        let f : List ℕ → Bool = λ l. mayShake (stateAt l) in
+        ap f (w .left) ∙ moves-leave (stateAt x) (c .outbound) (movable c ((stateAt x) .transfer)) ∙ sym (ap f (i .packed))
+
+    pub moves-settle : mayShake (stateAt x) ≡ false → Settles x (conditions (stateAt x)) m (record { sent = padded 8 []; moves = a; acks = 0 })
     moves-settle h =
         let t : Transfer = (stateAt m) .transfer in
-        let q : canHandshake c t ≡ false = ap (λ (d : Conditions). canHandshake d t) e ∙ quiet-after (stateAt x) t (sym (ap mayShake (begun .between .rest)) ∙ h) in
+        let q : canHandshake c t ≡ false = ap (λ (d : Conditions). canHandshake d t) e ∙ quiet-after (stateAt x) t (sym (ap mayShake (begun .between .rest)) ∙ as-before ∙ h) in
         looked m _ (going.settles c x m a 0 (sentOf []) begun q)
 
     module _ (m′ : List ℕ) (r : Told) (l : a ≤ r .moves) (v : Settles m c m′ (record { sent = r .sent; moves = r .moves - a; acks = r .acks })) where

@@ -17,10 +17,10 @@ use Rattle.laws.proofs.Lists.{padded-take}
 use Rattle.fifos.specs.declared.sent.Sent.{Sent}
 use Rattle.fifos.specs.Fifos.{sentView, sentOf, SentTidy}
 use Rattle.fifos.proofs.Laws.{sent-count}
-use Rattle.settling.specs.Settled.{startOf, movable, carried, movedBy, passed, acknowledged}
-use Rattle.settling.proofs.Parts.{shake-parts}
-use Rattle.settling.proofs.Runs.{run-none, run-keeps, run-ends}
-use Rattle.settling.proofs.Underway.{Underway, reports, begins, move-under, handshake-under, room-for-ack, at-end}
+use Rattle.settled.specs.Parts.{startOf, movable, carried, movedBy, passed, acknowledged}
+use Rattle.settled.proofs.ShakeParts.{shake-parts}
+use Rattle.settled.proofs.Runs.{run-none, run-keeps, run-ends}
+use Rattle.settled.proofs.Underway.{Underway, reports, begins, move-under, handshake-under, room-for-ack, at-end}
 use Rattle.image.specs.Image.{imageOf, stateAt, IsImage, withTransfer}
 use Rattle.settled.specs.declared.Told.{Told}
 use Rattle.settled.specs.Steps.{Moves, sentWith, shakenOf}

@@ -17,10 +17,10 @@ use Rattle.rules.proofs.Logic.{cond-case}
 use Rattle.rules.proofs.Ranges.{bytes-append, bytes-drop, bytes-at}
 use Rattle.rules.proofs.Rest.{handshake-full}
 use Rattle.laws.proofs.Lists.{elements, elements-all, padded-length, padded-shift}
-use Rattle.settling.specs.Settled.{startOf, passed, acknowledged}
-use Rattle.settling.proofs.Parts.{passed-none}
+use Rattle.settled.specs.Parts.{startOf, passed, acknowledged}
+use Rattle.settled.proofs.ShakeParts.{passed-none}
 use Rattle.image.specs.Image.{headOf, imageOf, stateAt, IsImage, withTransfer}
-use Rattle.settled.specs.Laid.{laid}
+use Rattle.settled.specs.Laid.{laid, counterPut}
 use Rattle.settled.specs.Steps.{byteOf}
 use Rattle.settled.proofs.Places.{Sized, flat, image-laid, scsi-joined, scsi-from}
 use Rattle.settled.proofs.Kept.{sized, image-long, offset-at, counter-at}
@@ -98,26 +98,56 @@ offset-kept : (s : State) (x y z : ℕ) → getD (set (set (set (imageOf s) 25 x
 unfolding imageOf
 offset-kept s x y z = refl
 
-counter-put : List ℕ → ℕ → List ℕ
-counter-put m n = set (set (set m 25 (counterByte 0 n)) 26 (counterByte 1 n)) 27 (counterByte 2 n)
+low-alone : (s : State) (x : ℕ) → set (imageOf s) 25 x ≡ set (set (set (imageOf s) 25 x) 26 (counterByte 1 (s .transfer .counter))) 27 (counterByte 2 (s .transfer .counter))
+unfolding imageOf
+low-alone s x = refl
 
-module _ (s : State) (m m₁ : List ℕ) (n o : ℕ) (p : m ≡ imageOf s) (u : n ≡ s .transfer .counter) (e : m₁ ≡ counter-put m ((n % 16777216 + 1) % 16777216)) where
-  counts : (n % 16777216 + 1) % 16777216 ≡ counted (s .transfer .counter)
-  unfolding counted
-  counts = omega arith
+low-at : (s : State) → getD (imageOf s) 25 0 ≡ counterByte 0 (s .transfer .counter)
+unfolding imageOf
+low-at s = refl
 
-  put : m₁ ≡ counter-put (imageOf s) (counted (s .transfer .counter))
-  put = e ∙ ap (λ (l : List ℕ). counter-put l ((n % 16777216 + 1) % 16777216)) p ∙ ap (counter-put (imageOf s)) counts
+-- a low byte below 255 does not carry
+low-counts : (n : ℕ) → n < counterSize → counterByte 0 n < 255 → counterByte 0 n + 1 ≡ counterByte 0 (counted n)
+unfolding counted
+low-counts n h k = omega arith
+
+middle-stays : (n : ℕ) → n < counterSize → counterByte 0 n < 255 → counterByte 1 n ≡ counterByte 1 (counted n)
+unfolding counted
+middle-stays n h k = omega arith
+
+high-stays : (n : ℕ) → n < counterSize → counterByte 0 n < 255 → counterByte 2 n ≡ counterByte 2 (counted n)
+unfolding counted
+high-stays n h k = omega arith
+
+whole-counts : (n k : ℕ) → n ≡ k → (n % 16777216 + 1) % 16777216 ≡ counted k
+unfolding counted
+whole-counts n k e = omega arith
+
+low-made : (s : State) (m : List ℕ) → m ≡ imageOf s → s .transfer .counter < counterSize → getD m 25 0 < 255 → set m 25 (getD m 25 0 + 1) ≡ counterPut m (counted (s .transfer .counter))
+unfolding counterPut
+low-made s m p f h =
+    let n : ℕ = s .transfer .counter in
+    let g : getD m 25 0 ≡ counterByte 0 n = ap (λ (l : List ℕ). getD l 25 0) p ∙ low-at s in
+    let k : counterByte 0 n < 255 = omega arith in
+    ap (λ (x : ℕ). set m 25 (x + 1)) g ∙ ap (λ (l : List ℕ). set l 25 (counterByte 0 n + 1)) p ∙ low-alone s (counterByte 0 n + 1)
+    ∙ ap (λ (x : ℕ). set (set (set (imageOf s) 25 x) 26 (counterByte 1 n)) 27 (counterByte 2 n)) (low-counts n f k)
+    ∙ ap (λ (x : ℕ). set (set (set (imageOf s) 25 (counterByte 0 (counted n))) 26 x) 27 (counterByte 2 n)) (middle-stays n f k)
+    ∙ ap (λ (x : ℕ). set (set (set (imageOf s) 25 (counterByte 0 (counted n))) 26 (counterByte 1 (counted n))) 27 x) (high-stays n f k)
+    ∙ ap (λ (l : List ℕ). counterPut l (counted n)) (sym p)
+
+module _ (s : State) (m m₁ : List ℕ) (o : ℕ) (p : m ≡ imageOf s) (e : m₁ ≡ counterPut m (counted (s .transfer .counter))) where
+  put : m₁ ≡ counterPut (imageOf s) (counted (s .transfer .counter))
+  put = e ∙ ap (λ (l : List ℕ). counterPut l (counted (s .transfer .counter))) p
 
   pulse-made : o ≡ getD m₁ 17 0 - 1 → set m₁ 17 o ≡ imageOf (withTransfer (acknowledged true (s .transfer)) s)
-  unfolding acknowledged counter-put
+  unfolding acknowledged counterPut
   pulse-made f =
       let g : o ≡ s .transfer .offset - 1 = f ∙ ap (λ (l : List ℕ). getD l 17 0 - 1) put ∙ ap (λ (k : ℕ). k - 1) (offset-kept s (counterByte 0 (counted (s .transfer .counter))) (counterByte 1 (counted (s .transfer .counter))) (counterByte 2 (counted (s .transfer .counter)))) in
-      ap (λ (l : List ℕ). set l 17 o) put ∙ ap (set (counter-put (imageOf s) (counted (s .transfer .counter))) 17) g
+      ap (λ (l : List ℕ). set l 17 o) put ∙ ap (set (counterPut (imageOf s) (counted (s .transfer .counter))) 17) g
       ∙ acked-pulse s (counted (s .transfer .counter)) (s .transfer .offset - 1)
 
   on-made : set m₁ 18 1 ≡ imageOf (withTransfer (acknowledged false (s .transfer)) s)
-  unfolding acknowledged counter-put
+  unfolding acknowledged counterPut
   on-made = ap (λ (l : List ℕ). set l 18 1) put ∙ acked-on s (counted (s .transfer .counter))
 
 -- the same of an image
@@ -134,13 +164,17 @@ module _ (m : List ℕ) (i : IsImage m) where
   count-is : (n : ℕ) → n ≡ getD m 25 0 + 256 * getD m 26 0 + 65536 * getD m 27 0 → n ≡ (stateAt m) .transfer .counter
   count-is n e = e ∙ ap (λ (l : List ℕ). getD l 25 0 + 256 * getD l 26 0 + 65536 * getD l 27 0) (i .packed) ∙ counter-at (stateAt m) (i .range .transfer .counter)
 
-  pub ack-pulse : (m₁ : List ℕ) (n o : ℕ) → n ≡ getD m 25 0 + 256 * getD m 26 0 + 65536 * getD m 27 0 → m₁ ≡ set (set (set m 25 (counterByte 0 ((n % 16777216 + 1) % 16777216))) 26 (counterByte 1 ((n % 16777216 + 1) % 16777216))) 27 (counterByte 2 ((n % 16777216 + 1) % 16777216)) → o ≡ getD m₁ 17 0 - 1 → set m₁ 17 o ≡ imageOf (withTransfer (acknowledged true ((stateAt m) .transfer)) (stateAt m))
-  unfolding counter-put
-  ack-pulse m₁ n o u e f = pulse-made (stateAt m) m m₁ n o (i .packed) (count-is n u) e f
+  pub count-low : getD m 25 0 < 255 → set m 25 (getD m 25 0 + 1) ≡ counterPut m (counted ((stateAt m) .transfer .counter))
+  count-low = low-made (stateAt m) m (i .packed) (i .range .transfer .counter)
 
-  pub ack-on : (m₁ : List ℕ) (n : ℕ) → n ≡ getD m 25 0 + 256 * getD m 26 0 + 65536 * getD m 27 0 → m₁ ≡ set (set (set m 25 (counterByte 0 ((n % 16777216 + 1) % 16777216))) 26 (counterByte 1 ((n % 16777216 + 1) % 16777216))) 27 (counterByte 2 ((n % 16777216 + 1) % 16777216)) → set m₁ 18 1 ≡ imageOf (withTransfer (acknowledged false ((stateAt m) .transfer)) (stateAt m))
-  unfolding counter-put
-  ack-on m₁ n u e = on-made (stateAt m) m m₁ n 0 (i .packed) (count-is n u) e
+  pub count-whole : (n : ℕ) → n ≡ getD m 25 0 + 256 * getD m 26 0 + 65536 * getD m 27 0 → counterPut m ((n % 16777216 + 1) % 16777216) ≡ counterPut m (counted ((stateAt m) .transfer .counter))
+  count-whole n u = ap (counterPut m) (whole-counts n ((stateAt m) .transfer .counter) (count-is n u))
+
+  pub ack-pulse : (m₁ : List ℕ) (o : ℕ) → m₁ ≡ counterPut m (counted ((stateAt m) .transfer .counter)) → o ≡ getD m₁ 17 0 - 1 → set m₁ 17 o ≡ imageOf (withTransfer (acknowledged true ((stateAt m) .transfer)) (stateAt m))
+  ack-pulse m₁ o e f = pulse-made (stateAt m) m m₁ o (i .packed) e f
+
+  pub ack-on : (m₁ : List ℕ) → m₁ ≡ counterPut m (counted ((stateAt m) .transfer .counter)) → set m₁ 18 1 ≡ imageOf (withTransfer (acknowledged false ((stateAt m) .transfer)) (stateAt m))
+  ack-on m₁ e = on-made (stateAt m) m m₁ 0 (i .packed) e
 
 -- inbound: nothing stored, or one byte
 pub pass-none : (o y : Bool) (b : ℕ) (t : Transfer) → o ≡ false → y ≡ true → passed o (cond y [] (b ∷ [])) t ≡ t

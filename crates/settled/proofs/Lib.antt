@@ -7,3 +7,7 @@ pub mod Looked
 pub mod Parts
 pub mod Pastes
 pub mod Places
+pub mod Runs
+pub mod ShakeParts
+pub mod Tests
+pub mod Underway

@@ -1,4 +1,5 @@
 pub mod Laid
 pub mod Looks
+pub mod Parts
 pub mod Settles
 pub mod Steps

@@ -5,7 +5,7 @@ use mathlib.Core.List.{List}
 use Rattle.rules.specs.Numbers.{padded}
 use Rattle.rules.specs.StepC.{Settling, settle, turns}
 use Rattle.rules.specs.declared.chip.Conditions.{Conditions}
-use Rattle.settling.specs.Settled.{startOf}
+use Rattle.settled.specs.Parts.{startOf}
 use Rattle.image.specs.Image.{imageOf, stateAt, withTransfer}
 use Rattle.settled.specs.declared.Told.{Told}
 

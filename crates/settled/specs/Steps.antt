@@ -9,7 +9,7 @@ use Rattle.rules.specs.StepC.{storedBy}
 use Rattle.rules.specs.declared.chip.Conditions.{Conditions}
 use Rattle.fifos.specs.declared.sent.Sent.{Sent}
 use Rattle.fifos.specs.Fifos.{sentView, sentOf}
-use Rattle.settling.specs.Settled.{movable, carried, passed, acknowledged}
+use Rattle.settled.specs.Parts.{movable, carried, passed, acknowledged}
 use Rattle.image.specs.Image.{imageOf, stateAt, withTransfer}
 
 -- the longest run of moves

@@ -93,7 +93,22 @@ fn shaking(m: &mut [u8; 196], c: Conditions, made: u8) -> Told
     }
 }
 
-// Settling of an event: without a path nothing is possible.
+// Moves alone, where no handshake can come.
+fn moving(m: &mut [u8; 196]) -> Told
+    requires { ⌜ IsImage (now m) ⌝ }
+    requires { ⌜ mayShake (stateAt (now m)) ≡ false ⌝ }
+    ensures { λ r. ⌜ Settles (now (m .entry)) (conditions (stateAt (now (m .entry)))) (now (m .exit)) r ⌝ }
+{
+    let c = conditions_of(m);
+    let moves = moves::moved(m, c);
+    Told {
+        sent: [0u8; 8],
+        moves: moves,
+        acks: 0,
+    }
+}
+
+// Settling of an event: without a path nothing is possible; moves do not change whether a handshake can come.
 pub fn settle(m: &mut [u8; 196]) -> Told
     requires { ⌜ IsImage (now m) ⌝ }
     ensures { λ r. ⌜ Settles (now (m .entry)) (conditions (stateAt (now (m .entry)))) (now (m .exit)) r ⌝ }
@@ -105,14 +120,10 @@ pub fn settle(m: &mut [u8; 196]) -> Told
             acks: 0,
         };
     }
+    if !possible(m) {
+        return moving(m);
+    }
     let c = conditions_of(m);
     let moves = moves::moved(m, c);
-    if !possible(m) {
-        return Told {
-            sent: [0u8; 8],
-            moves: moves,
-            acks: 0,
-        };
-    }
     shaking(m, c, moves)
 }

@@ -4,7 +4,7 @@ ghost use mathlib.Core.Bool.{true, false};
 ghost use Prim.Native.Nat.{_+_, _≤_, min};
 ghost use lib.ListN.{length};
 ghost use Rattle.image.specs.Image.{IsImage, imageOf, stateAt, withTransfer};
-ghost use Rattle.settling.specs.Settled.{movable, carried};
+ghost use Rattle.settled.specs.Parts.{movable, carried};
 ghost use Rattle.settled.specs.Steps.{Moves};
 use rules::chip::Conditions;
 
@@ -44,7 +44,7 @@ fn smaller(a: usize, b: usize) -> usize
     if a < b { a } else { b }
 }
 
-// The moves that are possible one after the other.
+// The moves that are possible one after the other; most often there is nothing to move, which is looked at first.
 pub fn run_length(m: &[u8; 196], c: Conditions) -> usize
     requires { ⌜ IsImage (now m) ⌝ }
     ensures { λ r. ⌜ r ≡ movable c ((stateAt (now (m .entry))) .transfer) ⌝ }
@@ -53,9 +53,17 @@ pub fn run_length(m: &[u8; 196], c: Conditions) -> usize
     let host = crate::copies::wide(m[24]);
     if c.path {
         if c.outbound {
-            smaller(host, 8 - scsi)
+            if host == 0 {
+                0
+            } else {
+                smaller(host, 8 - scsi)
+            }
         } else {
-            smaller(scsi, 128 - host)
+            if scsi == 0 {
+                0
+            } else {
+                smaller(scsi, 128 - host)
+            }
         }
     } else {
         0

@@ -4,11 +4,12 @@ ghost use mathlib.Core.Bool.{true, false};
 ghost use mathlib.Core.List.{[], _∷_};
 ghost use Prim.Native.Nat.{_+_, _*_, _-_, _<_, _≤_};
 ghost use lib.ListN.{length, set, getD};
-ghost use Rattle.rules.specs.Counter.{counterByte};
+ghost use Rattle.rules.specs.Counter.{counterByte, counted};
 ghost use Rattle.rules.specs.StepC.{canSynchronous, canAsynchronous, canHandshake};
 ghost use Rattle.fifos.specs.Fifos.{SentTidy};
 ghost use Rattle.image.specs.Image.{IsImage, imageOf, stateAt, withTransfer};
-ghost use Rattle.settling.specs.Settled.{passed, acknowledged};
+ghost use Rattle.settled.specs.Laid.{counterPut};
+ghost use Rattle.settled.specs.Parts.{passed, acknowledged};
 ghost use Rattle.settled.specs.Steps.{sentWith, byteOf, shakenOf};
 use fifos::sent::Sent;
 use rules::chip::Conditions;
@@ -124,13 +125,26 @@ fn counter_stored(m: &mut [u8; 196], n: u32)
     m[27] = ((n / 65536) % 256) as u8;
 }
 
-// The ACK of a handshake: "Each ACK adds one to the counter, modulo 16,777,216"
+// "Each ACK adds one to the counter, modulo 16,777,216"; most often the low byte alone changes.
+fn counted_in(m: &mut [u8; 196])
+    requires { ⌜ IsImage (now m) ⌝ }
+    ensures { λ _. ⌜ now (m .exit) ≡ counterPut (now (m .entry)) (counted ((stateAt (now (m .entry))) .transfer .counter)) ⌝ }
+{
+    let low = m[25];
+    if low < 255 {
+        m[25] = low + 1;
+    } else {
+        let n = counter_of(m);
+        counter_stored(m, (n % 16777216 + 1) % 16777216);
+    }
+}
+
+// The ACK of a handshake: a pulse that lowers the offset, or on.
 fn ack_given(m: &mut [u8; 196], synchronous: bool)
     requires { ⌜ IsImage (now m) ⌝ }
     ensures { λ _. ⌜ now (m .exit) ≡ imageOf (withTransfer (acknowledged synchronous ((stateAt (now (m .entry))) .transfer)) (stateAt (now (m .entry)))) ⌝ }
 {
-    let n = counter_of(m);
-    counter_stored(m, (n % 16777216 + 1) % 16777216);
+    counted_in(m);
     if synchronous {
         let offset = m[17];
         m[17] = less_one(offset);

@@ -1,20 +1,22 @@
 -- A run, one record more at a time.
 use mathlib.Core.Path.{_≡_, refl, ap, sym, _∙_}
 use mathlib.Core.List.{List, [], _∷_, _++_, append-assoc, append-nil}
-use Prim.Native.Nat.{ℕ, zero, suc, _+_, _*_}
+use Prim.Native.Nat.{ℕ, zero, suc, _+_, _*_, _-_, min}
 use native.Mathlib.Omega.{arith}
 use native.Mathlib.Numerals.{add-one}
-use lib.ListN.{length, take, drop, length-append}
+use lib.ListN.{length, take, drop, length-append, length-drop}
 use lib.Seq.{drop-drop, take-at, drop-at}
 use Rattle.rules.specs.State.{State}
-use Rattle.rules.specs.Chips.{view, chipOf}
-use Rattle.rules.specs.Ranges.{InRange, Tidy}
+use Rattle.rules.specs.Answers.{Stepped, answerOf, answerBytes}
+use Rattle.rules.specs.Ranges.{InRange, InBytes}
 use Rattle.rules.specs.Step.{step, answer, after, answers}
-use Rattle.rules.specs.declared.chip.Chip.{Chip}
-use Rattle.rules.proofs.Ranges.{step-fits, after-fits}
+use Rattle.rules.proofs.Ranges.{StepFits, step-fits, after-fits, after-bytes}
+use Rattle.laws.proofs.Lists.{padded-length, take-clamped}
+use Rattle.image.specs.Image.{imageOf, stateAt, IsImage}
+use Rattle.acted.proofs.Going.{image-is, state-is}
+use Rattle.turns.specs.Given.{Gives}
+use Rattle.turns.specs.declared.event.Reply.{Reply}
 use Rattle.step.specs.Runs.{recordAt, recordsOf, joined, IsTurn}
-use Rattle.step.proofs.Answering.{answer-sixteen}
-use Rattle.step.proofs.Parts.{tidy-of, view-of}
 
 records-next : (i : ℕ) (l : List ℕ) → recordsOf (suc i) l ≡ recordsOf i l ++ (recordAt i l ∷ [])
 records-next zero l = refl
@@ -41,6 +43,15 @@ joined-next : (ls : List (List ℕ)) (l : List ℕ) → joined (ls ++ (l ∷ [])
 joined-next [] l = append-nil l
 joined-next (k ∷ ls) l = ap (λ (r : List ℕ). k ++ r) (joined-next ls l) ∙ sym (append-assoc k (joined ls) l)
 
+answer-size : (r : Stepped) → StepFits r → length (answerBytes (answerOf r)) ≡ 16
+unfolding answerBytes answerOf
+answer-size r f = rw (padded-length 8 (r .sent) (f .sent))
+
+-- sixteen bytes, whatever the record
+answer-sixteen : (s : State) (bytes : List ℕ) → InRange s → length (answer s bytes) ≡ 16
+unfolding answer
+answer-sixteen s bytes i = answer-size (step s bytes) (step-fits s bytes i)
+
 -- sixteen bytes for each record
 joined-length : (s : State) (xs : List (List ℕ)) → InRange s → length (joined (answers s xs)) ≡ 16 * length xs
 joined-length s [] i = refl
@@ -49,42 +60,69 @@ joined-length s (x ∷ xs) i =
     let m : length (joined (answers ((step s x) .state) xs)) ≡ 16 * length xs = joined-length ((step s x) .state) xs (step-fits s x i .state) in
     simp length-append (omega arith)
 
--- the chip and the answers after i records, and after one more
-module _ (s : State) (f : InRange s) (l o : List ℕ) (i : ℕ) (c : Chip) (out : List ℕ) (e : c ≡ chipOf (after s (recordsOf i l))) (p : out ≡ joined (answers s (recordsOf i l)) ++ drop (16 * i) o) where
+-- the last record ends where the slice does
+record-part : (i n : ℕ) (l : List ℕ) → n ≡ min (4 * i + 4) (length l) → take (n - 4 * i) (drop (4 * i) l) ≡ recordAt i l
+record-part i n l e =
+    let d : length (drop (4 * i) l) ≡ length l - 4 * i = length-drop (4 * i) l in
+    take-clamped (length l - 4 * i) 4 (n - 4 * i) (drop (4 * i) l) d (omega arith)
+
+-- one record, stepped and answered
+pub turned : (m : List ℕ) (i n : ℕ) (l : List ℕ) → n ≡ min (4 * i + 4) (length l) → {k : List ℕ} {r : Reply} → Gives (step (stateAt m) (take (n - 4 * i) (drop (4 * i) l))) k r → {before buffer : List ℕ} → buffer ≡ (take (16 * i) before ++ r .answer) ++ drop (16 * i + 16) before → IsTurn m l before i k buffer
+unfolding answer
+turned m i n l e g {before} u =
+    let q = record-part i n l e in
+    record {
+      image = g .image ∙ ap (λ (x : List ℕ). imageOf ((step (stateAt m) x) .state)) q;
+      answers =
+          u ∙ ap (λ (x : List ℕ). (take (16 * i) before ++ x) ++ drop (16 * i + 16) before)
+          (g .answer ∙ ap (λ (x : List ℕ). answerBytes (answerOf (step (stateAt m) x))) q);
+    }
+
+-- the image and the answers after i records, and after one more
+module _ (s : State) (f : InRange s) (j : InBytes s) (l o : List ℕ) (i : ℕ) {m out : List ℕ} (e : m ≡ imageOf (after s (recordsOf i l))) (p : out ≡ joined (answers s (recordsOf i l)) ++ drop (16 * i) o) where
+  abbrev passed : List (List ℕ)
+  passed = recordsOf i l
+
   abbrev reached : State
-  reached = after s (recordsOf i l)
+  reached = after s passed
 
   reached-fits : InRange reached
-  reached-fits = after-fits s (recordsOf i l) f
+  reached-fits = after-fits s passed f
 
-  reached-view : view c ≡ reached
-  reached-view = view-of reached c reached-fits e
+  reached-bytes : InBytes reached
+  reached-bytes = after-bytes s passed f j
 
-  pub reached-tidy : Tidy c
-  reached-tidy = tidy-of reached c reached-fits e
+  pub image-reached : IsImage m
+  image-reached = image-is reached e reached-fits reached-bytes
 
-  front-length : length (joined (answers s (recordsOf i l))) ≡ 16 * i
-  front-length = joined-length s (recordsOf i l) f ∙ ap (λ (k : ℕ). 16 * k) (records-length i l)
+  pub state-reached : stateAt m ≡ reached
+  state-reached = state-is reached e reached-fits reached-bytes
 
-  module _ (out' : List ℕ) (c' : Chip) (t : IsTurn c l out i out' c') where
-    pub chip-next : c' ≡ chipOf (after s (recordsOf (i + 1) l))
-    chip-next =
-        t .chip
-        ∙ ap (λ (x : State). chipOf ((step x (recordAt i l)) .state)) reached-view
-        ∙ ap chipOf (sym (ap (λ (r : List (List ℕ)). after s r) (ap (λ (k : ℕ). recordsOf k l) (add-one i) ∙ records-next i l) ∙ after-next s (recordsOf i l) (recordAt i l)))
+  front-length : length (joined (answers s passed)) ≡ 16 * i
+  front-length = joined-length s passed f ∙ ap (λ (k : ℕ). 16 * k) (records-length i l)
 
-    pub answers-more : out' ≡ joined (answers s (recordsOf (i + 1) l)) ++ drop (16 * (i + 1)) o
+  one-more : recordsOf (i + 1) l ≡ passed ++ (recordAt i l ∷ [])
+  one-more = ap (λ (k : ℕ). recordsOf k l) (add-one i) ∙ records-next i l
+
+  module _ {n buffer : List ℕ} (t : IsTurn m l out i n buffer) where
+    pub image-next : n ≡ imageOf (after s (recordsOf (i + 1) l))
+    image-next =
+        t .image
+        ∙ ap (λ (x : State). imageOf ((step x (recordAt i l)) .state)) state-reached
+        ∙ ap imageOf (sym (ap (after s) one-more ∙ after-next s passed (recordAt i l)))
+
+    pub answers-more : buffer ≡ joined (answers s (recordsOf (i + 1) l)) ++ drop (16 * (i + 1)) o
     answers-more =
-        let front : take (16 * i) out ≡ joined (answers s (recordsOf i l)) = rw p (take-at (joined (answers s (recordsOf i l))) (drop (16 * i) o) (16 * i) front-length) in
-        let rest : drop (16 * i) out ≡ drop (16 * i) o = rw p (drop-at (joined (answers s (recordsOf i l))) (drop (16 * i) o) (16 * i) front-length) in
+        let front : take (16 * i) out ≡ joined (answers s passed) = rw p (take-at (joined (answers s passed)) (drop (16 * i) o) (16 * i) front-length) in
+        let rest : drop (16 * i) out ≡ drop (16 * i) o = rw p (drop-at (joined (answers s passed)) (drop (16 * i) o) (16 * i) front-length) in
         let k : 16 * i + 16 ≡ 16 * (i + 1) = omega arith in
         let behind : drop (16 * i + 16) out ≡ drop (16 * (i + 1)) o =
         sym (drop-drop 16 (16 * i) out) ∙ ap (λ (r : List ℕ). drop 16 r) rest ∙ drop-drop 16 (16 * i) o ∙ ap (λ (j : ℕ). drop j o) k in
-        let whole : joined (answers s (recordsOf i l)) ++ answer reached (recordAt i l) ≡ joined (answers s (recordsOf (i + 1) l)) =
-        sym (ap (λ (r : List (List ℕ)). joined (answers s r)) (ap (λ (k : ℕ). recordsOf k l) (add-one i) ∙ records-next i l)
-        ∙ ap joined (answers-next s (recordsOf i l) (recordAt i l)) ∙ joined-next (answers s (recordsOf i l)) (answer reached (recordAt i l))) in
+        let whole : joined (answers s passed) ++ answer reached (recordAt i l) ≡ joined (answers s (recordsOf (i + 1) l)) =
+        sym (ap (λ (r : List (List ℕ)). joined (answers s r)) one-more
+        ∙ ap joined (answers-next s passed (recordAt i l)) ∙ joined-next (answers s passed) (answer reached (recordAt i l))) in
         t .answers
-        ∙ ap (λ (x : State). (take (16 * i) out ++ answer x (recordAt i l)) ++ drop (16 * i + 16) out) reached-view
+        ∙ ap (λ (x : State). (take (16 * i) out ++ answer x (recordAt i l)) ++ drop (16 * i + 16) out) state-reached
         ∙ ap (λ (r : List ℕ). (r ++ answer reached (recordAt i l)) ++ drop (16 * i + 16) out) front
         ∙ ap (λ (r : List ℕ). r ++ drop (16 * i + 16) out) whole
         ∙ ap (λ (r : List ℕ). joined (answers s (recordsOf (i + 1) l)) ++ r) behind

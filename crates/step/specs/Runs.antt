@@ -3,10 +3,10 @@ use Prim.Native.Nat.{ℕ, zero, suc, _+_, _*_, _/_, min}
 use mathlib.Core.Path.{_≡_}
 use mathlib.Core.List.{List, [], _∷_, _++_}
 use lib.ListN.{length, take, drop}
-use Rattle.rules.specs.State.{State}
 use Rattle.rules.specs.Chips.{view, chipOf}
 use Rattle.rules.specs.Step.{step, answer, after, answers}
 use Rattle.rules.specs.declared.chip.Chip.{Chip}
+use Rattle.image.specs.Image.{imageOf, stateAt}
 use Rattle.step.specs.declared.Ran.{Ran}
 
 -- the first n records of a slice
@@ -31,10 +31,10 @@ joined (l ∷ ls) = l ++ joined ls
 abbrev pub recordAt : ℕ → List ℕ → List ℕ
 recordAt i bytes = take 4 (drop (4 * i) bytes)
 
--- one of them: the chip that record i leaves, and its answer in its place
-pub record IsTurn (c : Chip) (bytes before : List ℕ) (i : ℕ) (buffer : List ℕ) (r : Chip) : Type 0 where
-  pub chip : r ≡ chipOf ((step (view c) (recordAt i bytes)) .state)
-  pub answers : buffer ≡ (take (16 * i) before ++ answer (view c) (recordAt i bytes)) ++ drop (16 * i + 16) before
+-- one of them on an image: the image that record i leaves, and its answer in its place
+pub record IsTurn (m bytes before : List ℕ) (i : ℕ) (n buffer : List ℕ) : Type 0 where
+  pub image : n ≡ imageOf ((step (stateAt m) (recordAt i bytes)) .state)
+  pub answers : buffer ≡ (take (16 * i) before ++ answer (stateAt m) (recordAt i bytes)) ++ drop (16 * i + 16) before
 
 -- the single steps one after another: the chip they leave, how many, and their answers with the rest of the buffer as it was
 pub record IsRun (c : Chip) (bytes before buffer : List ℕ) (r : Ran) : Type 0 where

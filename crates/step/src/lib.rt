@@ -1,12 +1,17 @@
 // The step: a chip by value, a record and a lent answer buffer.
+ghost use mathlib.Core.Path.{_≡_};
+ghost use lib.ListN.{length};
+ghost use Rattle.rules.specs.Ranges.{Tidy};
 ghost use Rattle.step.specs.Outcomes.{IsStep};
 
 pub mod answers;
-pub mod event;
 pub mod reset;
+pub mod run;
 
+use crate::answers::store_at;
 use rules::chip::Chip;
 use rules::codes::Code;
+use turns::event::stepped;
 
 // What a call returns.
 pub struct Returned {
@@ -20,21 +25,32 @@ pub struct Ran {
     pub count: usize,
 }
 
+// One record over the image of a tidy chip; its answer fills the buffer.
+fn stepped_over(c: Chip, bytes: &[u8], answer: &mut [u8]) -> Returned
+    requires { ⌜ Tidy c ⌝ }
+    requires { ⌜ length (now answer) ≡ 16 ⌝ }
+    ensures { λ r. ⌜ IsStep c (now (bytes .entry)) (now (answer .entry)) (now (answer .exit)) r ⌝ }
+{
+    let mut m = [0u8; 196];
+    kept::store(c, &mut m);
+    let reply = stepped(&mut m, bytes);
+    let b = reply.answer;
+    store_at(b, answer, 0);
+    let chip = kept::load(&m);
+    let code = reply.code;
+    Returned {
+        chip: chip,
+        code: code,
+    }
+}
+
 // One record: any chip value, any record, any buffer. A buffer not of 16 bytes is left as it was, with code 1.
 pub fn step(c: Chip, bytes: &[u8], answer: &mut [u8]) -> Returned
     ensures { λ r. ⌜ IsStep c (now (bytes .entry)) (now (answer .entry)) (now (answer .exit)) r ⌝ }
 {
     let tidy = reset::tidied(c);
     if answer.len() == 16 {
-        let o = event::stepped(tidy, bytes);
-        let b = answers::answered(o);
-        answers::store_at(b, answer, 0);
-        let chip = o.chip;
-        let code = o.code;
-        return Returned {
-            chip: chip,
-            code: code,
-        };
+        return stepped_over(tidy, bytes, answer);
     }
     Returned {
         chip: tidy,

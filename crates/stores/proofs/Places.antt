@@ -2,13 +2,9 @@
 use Prim.Native.Nat.{ℕ, _+_, _%_, _<_}
 use mathlib.Core.Path.{_≡_, refl, ap, _∙_}
 use mathlib.Core.List.{List}
-use borrow.Author.Tests.{ne-eqb}
 use lib.ListN.{set, getD}
 use Rattle.rules.specs.State.{State}
-use Rattle.rules.specs.Events.{reads}
-use Rattle.rules.specs.StepA.{identityA}
 use Rattle.rules.specs.declared.records.Lines.{Lines}
-use Rattle.rules.specs.declared.records.Event.the-variants.{Read}
 use Rattle.image.specs.Image.{IsImage, imageOf, stateAt, withLines, withIdentity, upperByte, controlByte}
 
 -- what holds of the image of every state holds of an array that is an image
@@ -28,10 +24,6 @@ pub identity-below : (m : List ℕ) → IsImage m → getD m 21 0 < 32
 unfolding stateAt
 identity-below m i = i .range .identity
 
-pub identity-turned : (o : ℕ) → o ≡ 31 → (s : State) → set (imageOf s) 21 ((getD (imageOf s) 21 0 + 1) % 32) ≡ imageOf (withIdentity (identityA (s .identity) (Read o)) s)
-unfolding imageOf identityA reads
-identity-turned o e s = rw e
-
-pub identity-kept : (o : ℕ) → (o ≡ 31 → ⊥) → (m : List ℕ) → IsImage m → m ≡ imageOf (withIdentity (identityA ((stateAt m) .identity) (Read o)) (stateAt m))
-unfolding identityA reads
-identity-kept o h m i = rw (ne-eqb o 31 h) (i .packed)
+pub identity-turned : (s : State) → set (imageOf s) 21 ((getD (imageOf s) 21 0 + 1) % 32) ≡ imageOf (withIdentity ((s .identity + 1) % 32) s)
+unfolding imageOf
+identity-turned s = refl

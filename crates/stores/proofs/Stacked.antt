@@ -5,18 +5,13 @@ use mathlib.Core.Bool.{Bool, true, false}
 use mathlib.Core.List.{List, [], _∷_, _++_}
 use native.Mathlib.Omega.{arith}
 use native.Mathlib.Nat.{zero-add, suc-add}
-use borrow.Author.Tests.{ne-eqb}
 use lib.ListN.{length, set, getD, length-append}
 use lib.Seq.{set-append-left}
 use Rattle.rules.specs.Numbers.{bit, padded}
 use Rattle.rules.specs.Stack.{stackSize, stackPlace, pointerAfter, stackRead, stackWritten, pointed}
 use Rattle.rules.specs.State.{State}
 use Rattle.rules.specs.Ranges.{InRange}
-use Rattle.rules.specs.Events.{writes, reads, valueOf}
-use Rattle.rules.specs.StepA.{stackA}
 use Rattle.rules.specs.declared.chip.Stack.{Stack}
-use Rattle.rules.specs.declared.records.Event.{Event}
-use Rattle.rules.specs.declared.records.Event.the-variants.{Write, Read}
 use Rattle.laws.proofs.Lists.{padded-length}
 use Rattle.stack.proofs.Places.{place-lt}
 use Rattle.image.specs.Image.{IsImage, imageOf, headOf, stateAt, withStack}
@@ -109,32 +104,3 @@ popped-image m i =
 pub pointed-image : (v : ℕ) (m : List ℕ) → IsImage m → set m 22 (v % 32) ≡ imageOf (withStack (pointed v ((stateAt m) .stack)) (stateAt m))
 unfolding pointed
 pointed-image v m i = ap (λ (x : List ℕ). set x 22 (v % 32)) (i .packed) ∙ pointer-image (v % 32) (stateAt m)
-
--- which of them an event asks for
-module _ (w : Bool) (k : Stack) (o : ℕ) where
-  pub wrote-stack : (v : ℕ) → o ≡ 29 → stackWritten w v k ≡ stackA w k (Write o v)
-  unfolding stackA writes reads valueOf
-  wrote-stack v e = rw e
-
-  pub wrote-pointer : (v : ℕ) → o ≡ 19 → pointed v k ≡ stackA w k (Write o v)
-  unfolding stackA writes reads valueOf
-  wrote-pointer v e = rw e
-
-  pub wrote-neither : (v : ℕ) → (o ≡ 29 → ⊥) → (o ≡ 19 → ⊥) → k ≡ stackA w k (Write o v)
-  unfolding stackA writes reads valueOf
-  wrote-neither v a b = rw (ne-eqb o 29 a, ne-eqb o 19 b)
-
-  pub read-stack : o ≡ 29 → stackRead w k ≡ stackA w k (Read o)
-  unfolding stackA writes reads valueOf
-  read-stack e = rw e
-
-  pub read-other : (o ≡ 29 → ⊥) → k ≡ stackA w k (Read o)
-  unfolding stackA writes reads valueOf
-  read-other a = rw (ne-eqb o 29 a)
-
--- a stack that is equal gives the same image
-pub stack-image : (m : List ℕ) {k n : Stack} → k ≡ n → imageOf (withStack k (stateAt m)) ≡ imageOf (withStack n (stateAt m))
-stack-image m e = ap (λ (k : Stack). imageOf (withStack k (stateAt m))) e
-
-pub stack-kept : (e : Event) (m : List ℕ) → IsImage m → (stateAt m) .stack ≡ stackA (enstk32At m) ((stateAt m) .stack) e → m ≡ imageOf (withStack (stackA (enstk32At m) ((stateAt m) .stack) e) (stateAt m))
-stack-kept e m i h = i .packed ∙ stack-image m h

@@ -24,9 +24,7 @@ use registers::bytes::sxfrctl0_byte;
 use registers::bytes::sxfrctl0_of;
 use registers::bytes::sxfrctl1_byte;
 use registers::bytes::sxfrctl1_of;
-use rules::map::Mapped;
 use rules::map::Register;
-use rules::records::Event;
 
 // 34Ch: "bit 6 clears ATN".
 fn atn_cleared(sig: u8, value: u8) -> u8
@@ -58,29 +56,6 @@ pub fn stored(m: &mut [u8; 196], register: Register, value: u8)
         Register::DMACNTRL0 => m[9] = dmacntrl0_byte(dmacntrl0_of(value)),
         Register::DMACNTRL1 => m[10] = dmacntrl1_byte(dmacntrl1_of(value), 0),
         Register::BRSTCNTRL => m[11] = value,
-        _ => {}
-    }
-}
-
-// What stands at the offset, if anything.
-fn written(m: &mut [u8; 196], offset: u8, value: u8)
-    requires { ⌜ IsImage (now m) ⌝ }
-    ensures { λ _. ⌜ now (m .exit) ≡ imageOf (withRegisters (registersA ((stateAt (now (m .entry))) .registers) (Write offset value)) (stateAt (now (m .entry)))) ⌝ }
-{
-    let found = map::register_at(offset, true);
-    match found {
-        Mapped::Present(register) => stored(m, register, value),
-        Mapped::Missing => {}
-    }
-}
-
-// The registers: only a write changes them.
-pub fn registers_in(m: &mut [u8; 196], e: Event)
-    requires { ⌜ IsImage (now m) ⌝ }
-    ensures { λ _. ⌜ now (m .exit) ≡ imageOf (withRegisters (registersA ((stateAt (now (m .entry))) .registers) e) (stateAt (now (m .entry)))) ⌝ }
-{
-    match e {
-        Event::Write { offset, value } => written(m, offset, value),
         _ => {}
     }
 }

@@ -28,10 +28,11 @@ module _ {m : List ℕ} (g : IsImage m) (bytes : List ℕ) {n : List ℕ} {o : O
   pub image-left : IsImage n
   image-left = image-is (x .state) (l .image) range in-bytes
 
-  pub gives : {r : List ℕ} → r ≡ answerBytes (answerWith (stateAt n) (o .code) (o .value) (o .moves) (o .acks) (o .sent)) → Gives x n r
+  pub gives : {r : List ℕ} → r ≡ answerBytes (answerWith (stateAt n) (o .code) (o .value) (o .moves) (o .acks) (o .sent)) → Gives x n (record { code = o .code; answer = r })
   gives h =
       record {
         image = l .image;
+        code = l .code;
         answer =
             h
             ∙ (λ i. answerBytes (answerWith (state-is (x .state) (l .image) range in-bytes i) (l .code i) (l .value i) (l .moves i) (l .acks i) (l .sent i)))

@@ -18,9 +18,8 @@ use Rattle.rules.specs.declared.records.Event.the-variants.{PowerReset, Write, 
 use Rattle.rules.specs.declared.records.Decoded.{Decoded}
 use Rattle.rules.specs.declared.records.Decoded.the-variants.{Well, Ill}
 use Rattle.rules.proofs.Logic.{never}
-use Rattle.checks.proofs.DoneCode.{code-done}
+use Rattle.acted.proofs.DoneCode.{code-done}
 use Rattle.image.specs.Image.{imageOf}
-use Rattle.step.proofs.Parts.{access-done, access-refused}
 use Rattle.acted.specs.declared.Acted.{Acted}
 use Rattle.acted.specs.Acting.{Acts}
 use Rattle.edged.specs.declared.last.Seen.{Seen}
@@ -36,6 +35,14 @@ not-true false p q = refl
 not-false : (b : Bool) {a : Bool} → a ≡ not b → a ≡ false → b ≡ true
 not-false true p q = refl
 not-false false p q = sym q ∙ p
+
+access-done : (s : State) (e : Event) → isDone (accessCode s e) ≡ true → done s e ≡ access s e
+unfolding access
+access-done s e h = rw h
+
+access-refused : (s : State) (e : Event) → isDone (accessCode s e) ≡ false → refused s (accessCode s e) (refusedValue e) ≡ access s e
+unfolding access
+access-refused s e h = rw h
 
 -- a refusal, or a power reset
 refused-leaves : (s : State) {code : Code} {value : ℕ} {m : List ℕ} {c : Code} {v : ℕ} → m ≡ imageOf s → c ≡ code → v ≡ value → Leaves (refused s code value) m (endedAs c v)

@@ -1,10 +1,11 @@
 -- C and D, on the image that B left.
 use mathlib.Core.Path.{_≡_, ap, sym, _∙_}
-use mathlib.Core.Bool.{cond}
+use mathlib.Core.Bool.{Bool, cond}
 use mathlib.Core.List.{List}
 use Prim.Native.Nat.{ℕ}
 use Rattle.rules.specs.Numbers.{padded}
 use Rattle.rules.specs.State.{State}
+use Rattle.rules.specs.Seen.{path}
 use Rattle.rules.specs.Reads.{valueRead}
 use Rattle.rules.specs.StepA.{afterA}
 use Rattle.rules.specs.StepB.{edges, edgesOf, afterB}
@@ -18,8 +19,8 @@ use Rattle.rules.specs.declared.records.Event.{Event}
 use Rattle.rules.specs.declared.registers.Simode0.{Simode0}
 use Rattle.rules.specs.declared.registers.Simode1.{Simode1}
 use Rattle.rules.specs.declared.chip.Status.{Status}
-use Rattle.image.specs.Image.{imageOf, stateAt, IsImage, withTransfer}
-use Rattle.settling.specs.Settled.{startOf}
+use Rattle.image.specs.Image.{imageOf, stateAt, registersAt, IsImage, withTransfer}
+use Rattle.settled.specs.Parts.{startOf}
 use Rattle.settled.specs.declared.Told.{Told}
 use Rattle.settled.specs.Settles.{endOf, Settles}
 use Rattle.turns.specs.Closing.{closedBy}
@@ -40,6 +41,14 @@ module _ (s : State) (e : Event) (i : InRange (afterB s e)) (j : InBytes (afterB
 
   pub image-c : IsImage n
   image-c = image-is (parts.settledState s e) is-c (parts.settled-range s e i) (parts.settled-in-bytes s e j)
+
+  -- settling changes no register
+  pub way-kept : {y : Bool} → y ≡ path (registersAt b) → y ≡ path ((stateAt n) .registers)
+  unfolding stateAt
+  way-kept q =
+      q
+      ∙ ap (λ (x : State). path (x .registers)) state-b
+      ∙ sym (ap (λ (x : State). path (x .registers)) (state-is (parts.settledState s e) is-c (parts.settled-range s e i) (parts.settled-in-bytes s e j)))
 
   acks-are : t .acks ≡ (settledC s e) .acks
   acks-are = w .acks ∙ ap (λ (x : Settling). x .acks) end-is

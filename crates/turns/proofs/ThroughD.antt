@@ -1,9 +1,12 @@
 -- D, part by part.
-use mathlib.Core.Path.{_≡_, ap, _∙_}
+use mathlib.Core.Path.{_≡_, refl, ap, _∙_}
+use mathlib.Core.Bool.{Bool, true, false, not, _&&_, Bool·beq, false≢true}
 use mathlib.Core.List.{List}
 use Prim.Native.Nat.{ℕ}
 use lib.ListN.{getD}
 use Rattle.rules.specs.State.{State}
+use Rattle.rules.specs.Seen.{automatic, normal, matched, path, reqSeen}
+use Rattle.rules.specs.StepD.{fifoConflict, pioReady, statusRaised}
 use Rattle.rules.specs.Ranges.{InRange, InBytes}
 use Rattle.rules.specs.declared.registers.Simode0.{Simode0}
 use Rattle.rules.specs.declared.registers.Simode1.{Simode1}
@@ -11,6 +14,32 @@ use Rattle.rules.specs.declared.chip.Status.{Status}
 use Rattle.image.specs.Image.{imageOf, stateAt, statusOf, IsImage}
 use Rattle.turns.specs.Closing.{raisedBy, fallenBy, latchedBy, closedBy}
 use Rattle.acted.proofs.Going.{image-is, state-is, onward}
+
+-- with a path the mode is Normal, not Automatic
+open-path : (spio dma x a b c : Bool) → (not spio && dma && x) ≡ true → (spio && not dma && a && b && c) ≡ false
+open-path true dma x a b c h = absurd (false≢true h)
+open-path false dma x a b c h = refl
+
+right-false : (b : Bool) → (b && false) ≡ false
+right-false true = refl
+right-false false = refl
+
+module _ (s : State) (h : path (s .registers) ≡ true) where
+  unready : pioReady (s .registers) (s .lines) (s .transfer) ≡ false
+  unfolding path normal pioReady automatic
+  unready =
+      let r = s .registers in
+      open-path (r .sxfrctl0 .spioen) (r .sxfrctl0 .dmaen) (not (Bool·beq (r .dmacntrl0 .write) (r .scsisig .ioexp)))
+      (matched r (s .lines)) (reqSeen r (s .lines)) (not (s .transfer .ack)) h
+
+  unconflicted : fifoConflict (s .registers) ≡ false
+  unfolding fifoConflict
+  unconflicted = rw h (right-false (normal (s .registers) && s .registers .sxfrctl0 .scsien))
+
+  -- so nothing rises
+  pub unraised : s ≡ raisedBy s
+  unfolding statusRaised
+  unraised = rw (unready, unconflicted)
 
 -- the status that an image's byte holds
 pub status-of : (m : List ℕ) {t : State} → stateAt m ≡ t → statusOf (getD m 12 0) ≡ t .status

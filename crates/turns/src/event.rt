@@ -19,6 +19,12 @@ pub struct Outcome {
     pub sent: [u8; 8],
 }
 
+// What a record gives: the sixteen bytes of its answer, and its code.
+pub struct Reply {
+    pub code: Code,
+    pub answer: [u8; 16],
+}
+
 // "A refused access has ACKs and moves 0 and no sent bytes".
 fn ended(code: Code, value: u16) -> Outcome
     ensures { λ r. ⌜ r ≡ endedAs code value ⌝ }
@@ -50,12 +56,16 @@ pub fn outcome_of(m: &mut [u8; 196], bytes: &[u8]) -> Outcome
 }
 
 // A record on an image, and its answer.
-pub fn stepped(m: &mut [u8; 196], bytes: &[u8]) -> [u8; 16]
+pub fn stepped(m: &mut [u8; 196], bytes: &[u8]) -> Reply
     requires { ⌜ IsImage (now m) ⌝ }
     ensures { λ r. ⌜ Gives (step (stateAt (now (m .entry))) (now (bytes .entry))) (now (m .exit)) r ⌝ }
 {
     let o = outcome_of(m, bytes);
     let code = o.code;
     let sent = o.sent;
-    answer_of(m, code, o.value, o.moves, o.acks, sent)
+    let answer = answer_of(m, code, o.value, o.moves, o.acks, sent);
+    Reply {
+        code: code,
+        answer: answer,
+    }
 }

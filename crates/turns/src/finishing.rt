@@ -9,6 +9,7 @@ use crate::closing::closed_in;
 use crate::event::Outcome;
 use edged::last::Seen;
 use edged::since::edges_since;
+use image::bus::path;
 use rules::codes::Code;
 use settled::settle;
 
@@ -37,8 +38,9 @@ pub fn finished(
 {
     let status = m[12];
     let beyond = edges_since(m, seen, ticks);
+    let way = path(m);
     let t = settle(m);
-    closed_in(m, before0, before1, status, t.acks);
+    closed_in(m, before0, before1, status, t.acks, way);
     let code = code_of(beyond);
     let sent = t.sent;
     Outcome {

@@ -4,4 +4,3 @@ pub mod event;
 pub mod finishing;
 pub mod opening;
 pub mod reset;
-pub mod run;

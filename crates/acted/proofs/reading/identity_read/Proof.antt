@@ -15,7 +15,7 @@ status-kept-in-requires c κs =
     let x = c .before in
     let o = x .before .before .before .before in
     let s = stateAt (o .args .m .now) in
-    unheld-image (o .pre) 0x1F (omega arith) (read-done (o .pre) 0x1F ID refl refl) (x .identity-read .ensures ∙ ap imageOf (identity-left s))
+    unheld-image (o .pre) 0x1F (omega arith) (read-done (o .pre) 0x1F ID refl refl) (x .identity-turned .ensures ∙ ap imageOf (identity-left s))
 
 returns : tie.Need-returns
 unfolding readAt table
@@ -24,7 +24,7 @@ returns c =
     let x = k .before .before in
     let o = x .before .before .before .before in
     let s = stateAt (o .args .m .now) in
-    read-acts (o .pre) 0x1F (omega arith) (read-done (o .pre) 0x1F ID refl refl) (x .identity-read .ensures ∙ ap imageOf (identity-left s))
+    read-acts (o .pre) 0x1F (omega arith) (read-done (o .pre) 0x1F ID refl refl) (x .identity-turned .ensures ∙ ap imageOf (identity-left s))
     (unaccessed s 0x1F refl) (unacked s 0x1F refl) (k .status-kept-in .ensures) (x .before .before .id-byte .ensures ∙ identity-value s) (c .done-with .ensures)
 
 pub identity-read-spec : {M : Type 1} → statement M

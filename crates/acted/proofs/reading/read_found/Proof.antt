@@ -9,7 +9,7 @@ use Rattle.acted.proofs.reading.read_found.Statement.{statement}
 use Rattle.acted.proofs.reading.read_found.Tie as tie
 
 returns : tie.Need-returns
-returns c = rw (c .before .before .enum-told .given .1) (c .port-read .ensures)
+returns c = rw (c .before .before .enum-told .given .1) (c .byte-read .ensures)
 
 returns-2 : tie.Need-returns-2
 returns-2 c = rw (c .before .before .enum-told2 .given .1) (c .latch-read .ensures)

@@ -12,14 +12,14 @@ stored-requires : tie.Need-stored-requires
 unfolding table writtenAt
 stored-requires c κs =
     let a = c .before .before .before in
-    (there (stacked (leaves dmacntrl1 (a .pre) (a .fits .value .fits)) (start (a .pre)) (c .before .stack-written .ensures)), refl)
+    (there (stacked (leaves dmacntrl1 (a .pre) (a .fits .value .fits)) (start (a .pre)) (c .before .pointed .ensures)), refl)
 
 status-kept-in-requires : tie.Need-status-kept-in-requires
 status-kept-in-requires c κs =
     let x = c .before .before .before in
     let a = x .before .before in
     let l = leaves dmacntrl1 (a .pre) (a .fits .value .fits) in
-    there (stored l (stacked l (start (a .pre)) (x .stack-written .ensures)) refl (c .before .stored .ensures))
+    there (stored l (stacked l (start (a .pre)) (x .pointed .ensures)) refl (c .before .stored .ensures))
 
 returns : tie.Need-returns
 returns c =
@@ -27,7 +27,7 @@ returns c =
     let x = y .before .before in
     let a = x .before .before in
     let l = leaves dmacntrl1 (a .pre) (a .fits .value .fits) in
-    let i = stored l (stacked l (start (a .pre)) (x .stack-written .ensures)) refl (y .stored .ensures) in
+    let i = stored l (stacked l (start (a .pre)) (x .pointed .ensures)) refl (y .stored .ensures) in
     acts l (flagged i false false WordRead (c .before .status-kept-in .ensures)) (c .done-with .ensures)
 
 pub stack-control-spec : {M : Type 1} → statement M

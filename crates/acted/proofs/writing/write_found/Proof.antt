@@ -99,7 +99,7 @@ returns-18 c = rw (c .before .before .enum-told18 .given .1) (c .stack-control .
 
 -- DMADATA
 returns-19 : tie.Need-returns-19
-returns-19 c = rw (c .before .before .enum-told19 .given .1) (c .port-written .ensures)
+returns-19 c = rw (c .before .before .enum-told19 .given .1) (c .byte-written .ensures)
 
 -- BRSTCNTRL
 plain-written-requires-8 : tie.Need-plain-written-requires-8

@@ -1,6 +1,6 @@
 use borrow.Author.Needs.{needs}
 use Rattle.flags.proofs.Placed.{status-left, status-at, enspchk-at}
-use Rattle.flags.proofs.Unwritten.{status-idle}
+use Rattle.flags.proofs.Idle.{status-idle}
 use Rattle.flags.proofs.status.status_kept_in.Statement.{statement}
 use Rattle.flags.proofs.status.status_kept_in.Tie as tie
 

@@ -10,37 +10,49 @@ use Rattle.image.specs.Image.{registersAt, linesAt, transferAt}
 use Rattle.image.proofs.bus.driving.Statement.{statement}
 use Rattle.image.proofs.bus.driving.Tie as tie
 
--- IO is asked first
-first : (k i b : Bool) → cond i false (cond k b false) ≡ (k && not i && b)
-first true true b = refl
-first true false b = refl
-first false true b = refl
-first false false b = refl
+-- the mode is asked first, then IO
+first : (w i k : Bool) → cond w (cond i false k) false ≡ (k && not i && w)
+first true true true = refl
+first true true false = refl
+first true false true = refl
+first true false false = refl
+first false true true = refl
+first false true false = refl
+first false false true = refl
+first false false false = refl
 
--- by the two tests, as the code has them
-by-tests : (r : Registers) (l : Lines) (t : Transfer) {i k m a n : Bool} → i ≡ l .io → k ≡ connected r l → m ≡ manual r → a ≡ automatic r → n ≡ normal r → cond i false (cond k (m || a || (n && t .ack)) false) ≡ driving r l t
+-- by the tests, as the code has them
+by-tests : (r : Registers) (l : Lines) (t : Transfer) {i k m a n : Bool} → i ≡ l .io → k ≡ connected r l → m ≡ manual r → a ≡ automatic r → n ≡ normal r → cond (m || a || (n && t .ack)) (cond i false k) false ≡ driving r l t
 unfolding driving
-by-tests r l t d e f g h = rw (d, e, f, g, h) (first (connected r l) (l .io) _)
+by-tests r l t d e f g h = rw (d, e, f, g, h) (first _ (l .io) (connected r l))
 
 returns : tie.Need-returns
 returns c =
-    let m = c .before .before .args .m .now in
-    by-tests (registersAt m) (linesAt m) (transferAt m) (sym (eq-eqb _ _ (c .if1 .taken))) refl refl refl refl
+    let mode = c .before .before in
+    let normal = mode .before .before in
+    let automatic = normal .before in
+    let manual = automatic .before in
+    let m = manual .before .args .m .now in
+    rw (mode .if1 .taken) at (by-tests (registersAt m) (linesAt m) (transferAt m) (sym (eq-eqb _ _ (c .if2 .taken))) refl (manual .manual .ensures) (automatic .automatic .ensures) (normal .normal .ensures))
 
 returns-2 : tie.Need-returns-2
 returns-2 c =
-    let automated = c .before .before in
-    let joined = automated .before .before .before in
-    let m = joined .before .before .before .args .m .now in
-    rw (automated .before .before .if2 .taken) at (by-tests (registersAt m) (linesAt m) (transferAt m) (sym (ne-eqb _ _ (joined .before .if1 .left))) (joined .connected .ensures) (automated .before .manual .ensures) (automated .automatic .ensures) (c .before .normal .ensures))
+    let mode = c .before .before .before in
+    let normal = mode .before .before in
+    let automatic = normal .before in
+    let manual = automatic .before in
+    let m = manual .before .args .m .now in
+    rw (mode .if1 .taken) at (by-tests (registersAt m) (linesAt m) (transferAt m) (sym (ne-eqb _ _ (c .before .if2 .left))) (c .connected .ensures) (manual .manual .ensures) (automatic .automatic .ensures) (normal .normal .ensures))
 
 returns-3 : tie.Need-returns-3
 returns-3 c =
-    let m = c .before .before .before .before .args .m .now in
-    rw (c .if2 .left) at (by-tests (registersAt m) (linesAt m) (transferAt m) (sym (ne-eqb _ _ (c .before .before .if1 .left))) (c .before .connected .ensures) refl refl refl)
+    let normal = c .before .before in
+    let automatic = normal .before in
+    let manual = automatic .before in
+    let m = manual .before .args .m .now in
+    rw (c .if1 .left) at (by-tests (registersAt m) (linesAt m) (transferAt m) refl refl (manual .manual .ensures) (automatic .automatic .ensures) (normal .normal .ensures))
 
 pub driving-spec : {M : Type 1} → statement M
 driving-spec =
     tie.close
-    (tie.spec (λ c. search needs) returns (λ c κs. search needs) (λ c κs. search needs) (λ c κs. search needs)
-    (λ c κs. search needs) (λ c. search needs) returns-2 returns-3)
+    (tie.spec (λ c κs. search needs) (λ c κs. search needs) (λ c κs. search needs) (λ c. search needs) (λ c. search needs) (λ c κs. search needs) returns returns-2 returns-3)

@@ -1,18 +1,55 @@
-use Rattle.image.specs.Image.{stateAt}
-use Rattle.ports.proofs.Fronts.{placed-at, imaged-at}
+use Prim.Native.Nat.{_-_}
+use native.Mathlib.Omega.{arith}
+use lib.ListN.{getD}
+use borrow.Author.Needs.{needs}
+use Rattle.ports.proofs.Fronts.{popped, moved-length, image-length, count-fits, placed-at}
 use Rattle.ports.proofs.host.host_popped.Statement.{statement}
 use Rattle.ports.proofs.host.host_popped.Tie as tie
 
-pop-requires : tie.Need-pop-requires
-pop-requires c κs =
+zeroed-requires : tie.Need-zeroed-requires
+zeroed-requires c κs =
+    let a = c .before .before .before .before in
+    let m = a .args .m .now in
+    let p = placed-at m (a .pre .0) in
+    let h = count-fits p (a .pre .0 .packed) in
+    (moved-length m 68 (a .args .k) (getD m 24 0 - a .args .k) (c .before .moved .ensures) (image-length p (a .pre .0 .packed)) (omega (arith, a .pre .1, h)), omega (arith, a .pre .1, h))
+
+cast-n : tie.Need-cast-n
+cast-n c =
     let a = c .before in
-    (imaged-at (a .args .m .now) (a .pre .0), a .pre .1)
+    record { fits = omega (arith, count-fits (placed-at (a .args .m .now) (a .pre .0)) (a .pre .0 .packed)) }
+
+add-zeroed : tie.Need-add-zeroed
+add-zeroed c =
+    let a = c .before .before .before .before in
+    record { fits = omega (arith, count-fits (placed-at (a .args .m .now) (a .pre .0)) (a .pre .0 .packed)) }
+
+cast-m : tie.Need-cast-m
+cast-m c =
+    let a = c .before .before .before .before .before in
+    record { fits = omega (arith, count-fits (placed-at (a .args .m .now) (a .pre .0)) (a .pre .0 .packed)) }
+
+moved-requires : tie.Need-moved-requires
+moved-requires c κs =
+    let a = c .before .before in
+    let p = placed-at (a .args .m .now) (a .pre .0) in
+    (image-length p (a .pre .0 .packed), omega (arith, a .pre .1, count-fits p (a .pre .0 .packed)))
 
 returns : tie.Need-returns
 returns c =
-    let a = c .before .before in
-    let m = a .args .m .now in
-    c .pop .ensures (stateAt m) (placed-at m (a .pre .0)) (a .pre .0 .packed)
+    let a = c .before .before .before .before .before in
+    popped (placed-at (a .args .m .now) (a .pre .0)) (a .pre .0 .packed) (a .args .k) (a .pre .1) (c .before .before .moved .ensures) (c .zeroed .ensures)
 
 pub host-popped-spec : {M : Type 1} → statement M
-host-popped-spec = tie.close (tie.spec pop-requires returns)
+host-popped-spec =
+    tie.close
+    (tie.spec
+    (λ c. search needs)
+    cast-n
+    (λ c. search needs)
+    moved-requires
+    add-zeroed
+    zeroed-requires
+    cast-m
+    (λ c. search needs)
+    returns)

@@ -1,8 +1,8 @@
 use mathlib.Core.Bool.{Bool}
 use mathlib.Core.Path.{sym, ap, _∙_}
 use denote.Ref.{now}
-use Rattle.settling.specs.Settled.{carried}
-use Rattle.settling.proofs.Runs.{run-out, run-in}
+use Rattle.settled.specs.Parts.{carried}
+use Rattle.settled.proofs.Runs.{run-out, run-in}
 use Rattle.image.specs.Image.{imageOf, stateAt, withTransfer}
 use Rattle.settled.proofs.moves.carried_run.Statement.{statement}
 use Rattle.settled.proofs.moves.carried_run.Tie as tie

@@ -5,8 +5,8 @@ use native.Mathlib.Nat.{le-refl}
 use denote.Ref.{now}
 use borrow.Author.Needs.{needs}
 use Rattle.rules.specs.State.{Transfer}
-use Rattle.settling.specs.Settled.{movable, carried}
-use Rattle.settling.proofs.Runs.{run-small}
+use Rattle.settled.specs.Parts.{movable, carried}
+use Rattle.settled.proofs.Runs.{run-small}
 use Rattle.image.specs.Image.{imageOf, stateAt, withTransfer}
 use Rattle.settled.proofs.Going.{carried-none}
 use Rattle.settled.proofs.moves.moved.Statement.{statement}

@@ -2,7 +2,7 @@ use mathlib.Core.Bool.{true, false}
 use denote.Ref.{now}
 use borrow.Author.Needs.{needs}
 use Rattle.image.specs.Image.{stateAt}
-use Rattle.settling.proofs.Tests.{asynchronous-by}
+use Rattle.settled.proofs.Tests.{asynchronous-by}
 use Rattle.settled.proofs.Carries.{scsi-held}
 use Rattle.settled.proofs.Kept.{ack-held}
 use Rattle.settled.proofs.shakes.can_asynchronous.Statement.{statement}

@@ -3,7 +3,7 @@ use mathlib.Core.Bool.{Bool, true, false, _&&_}
 use denote.Ref.{now}
 use borrow.Author.Needs.{needs}
 use Rattle.image.specs.Image.{stateAt}
-use Rattle.settling.proofs.Tests.{handshake-by}
+use Rattle.settled.proofs.Tests.{handshake-by}
 use Rattle.settled.proofs.shakes.can_handshake.Statement.{statement}
 use Rattle.settled.proofs.shakes.can_handshake.Tie as tie
 

@@ -3,7 +3,7 @@ use mathlib.Core.Path.{_≡_, ap, _∙_}
 use denote.Ref.{now}
 use borrow.Author.Needs.{needs}
 use Rattle.rules.specs.State.{State}
-use Rattle.settling.specs.Settled.{acknowledged}
+use Rattle.settled.specs.Parts.{acknowledged}
 use Rattle.image.specs.Image.{IsImage, imageOf, stateAt, withTransfer}
 use Rattle.settled.specs.Steps.{byteOf}
 use Rattle.settled.proofs.Kept.{kept}

@@ -16,17 +16,20 @@ edges-since-requires c κs =
 
 settle-requires : tie.Need-settle-requires
 settle-requires c κs =
-    let found = c .before in
+    let found = c .before .before .before in
     let w = found .before .before .before .pre in
     b.image-b (w .state) (w .range) (w .bytes) (w .event) (w .fits) (w .done) (w .made) (w .rst) (w .req) (w .ticks) (w .mismatched) (found .edges-since .ensures .1)
 
 closed-in-requires : tie.Need-closed-in-requires
 closed-in-requires c κs =
     let settled = c .before in
-    let found = settled .before .before in
+    let way = settled .before .before in
+    let found = way .before .before in
     let w = found .before .before .before .pre in
-    all.image-c (w .state) (w .event) (b.b-fits (w .state) (w .range) (w .bytes) (w .event) (w .fits) (w .done) (w .made)) (b.b-bytes (w .state) (w .range) (w .bytes) (w .event) (w .fits) (w .done) (w .made))
-    (b.is-b (w .state) (w .range) (w .bytes) (w .event) (w .fits) (w .done) (w .made) (w .rst) (w .req) (w .ticks) (w .mismatched) (found .edges-since .ensures .1)) (settled .settle .ensures)
+    let f = b.b-fits (w .state) (w .range) (w .bytes) (w .event) (w .fits) (w .done) (w .made) in
+    let g = b.b-bytes (w .state) (w .range) (w .bytes) (w .event) (w .fits) (w .done) (w .made) in
+    let h = b.is-b (w .state) (w .range) (w .bytes) (w .event) (w .fits) (w .done) (w .made) (w .rst) (w .req) (w .ticks) (w .mismatched) (found .edges-since .ensures .1) in
+    (all.image-c (w .state) (w .event) f g h (settled .settle .ensures), all.way-kept (w .state) (w .event) f g h (settled .settle .ensures) (way .path .ensures))
 
 abbrev beyond-code : Bool → Code
 beyond-code x = cond x BeyondLimit Done
@@ -36,7 +39,7 @@ returns c =
     let code = c .before in
     let closed = code .before in
     let settled = closed .before .before in
-    let found = settled .before .before in
+    let found = settled .before .before .before .before in
     λ w.
     all.leaves (w .state) (w .event) (b.b-fits (w .state) (w .range) (w .bytes) (w .event) (w .fits) (w .done) (w .made)) (b.b-bytes (w .state) (w .range) (w .bytes) (w .event) (w .fits) (w .done) (w .made))
     (b.is-b (w .state) (w .range) (w .bytes) (w .event) (w .fits) (w .done) (w .made) (w .rst) (w .req) (w .ticks) (w .mismatched) (found .edges-since .ensures .1)) (settled .settle .ensures)
@@ -46,4 +49,4 @@ returns c =
 pub finished-spec : {M : Type 1} → statement M
 finished-spec =
     tie.close
-    (tie.spec (λ c. search needs) edges-since-requires settle-requires closed-in-requires (λ c κs. search needs) returns)
+    (tie.spec (λ c. search needs) edges-since-requires (λ c κs. search needs) settle-requires closed-in-requires (λ c κs. search needs) returns)

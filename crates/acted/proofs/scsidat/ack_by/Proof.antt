@@ -1,0 +1,17 @@
+use borrow.Author.Needs.{needs}
+use Rattle.image.specs.Image.{stateAt}
+use Rattle.ports.proofs.Fronts.{placed-at}
+use Rattle.acted.proofs.scsidat.ack_by.Statement.{statement}
+use Rattle.acted.proofs.scsidat.ack_by.Tie as tie
+
+returns : tie.Need-returns
+returns c =
+    let a = c .before .before .before in
+    let m = a .args .m .now in
+    rw (c .before .before .if1 .taken) (c .acknowledged .ensures (stateAt m) (placed-at m (a .pre)) (a .pre .packed))
+
+returns-2 : tie.Need-returns-2
+returns-2 c = rw (c .if1 .left) (c .before .pre .packed)
+
+pub ack-by-spec : {M : Type 1} → statement M
+ack-by-spec = tie.close (tie.spec (λ c κs. search needs) returns returns-2)

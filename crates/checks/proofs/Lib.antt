@@ -1,3 +1,0 @@
-pub mod Accesses
-pub mod ByState
-pub mod DoneCode

@@ -1,4 +1,0 @@
-pub mod Laws
-pub mod EdgesIn
-pub mod AppliedIn
-pub mod Room

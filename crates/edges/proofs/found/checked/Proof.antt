@@ -1,6 +1,0 @@
-use borrow.Author.Needs.{needs}
-use Rattle.edges.proofs.found.checked.Statement.{statement}
-use Rattle.edges.proofs.found.checked.Tie as tie
-
-pub checked-spec : {M : Type 1} → statement M
-checked-spec = tie.close (tie.spec (λ c κs. search needs) (λ c. cc))

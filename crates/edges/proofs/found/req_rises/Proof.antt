@@ -1,6 +1,0 @@
-use borrow.Author.Needs.{needs}
-use Rattle.edges.proofs.found.req_rises.Statement.{statement}
-use Rattle.edges.proofs.found.req_rises.Tie as tie
-
-pub req-rises-spec : {M : Type 1} → statement M
-req-rises-spec = tie.close (tie.spec (λ c κs. search needs) (λ c. cc))

@@ -1,0 +1,26 @@
+-- An event that clears nothing, and finds nothing to hold at 0.
+use mathlib.Core.Path.{_≡_, refl}
+use mathlib.Core.Bool.{Bool, true, false, not, _&&_, _||_, false≢true}
+use Rattle.rules.specs.Events.{writes}
+use Rattle.rules.specs.StepA.{statusA, clears, clearsError}
+use Rattle.rules.specs.declared.chip.Status.{Status}
+use Rattle.rules.specs.declared.records.Event.the-variants.{WordRead}
+
+-- 346h is not accessed, no ACK is given, and SCSIPERR is not to fall
+record Idle (accessed acked enspchk scsiperr : Bool) : Type 0 where
+  pub unaccessed : accessed ≡ false
+  pub unacked : acked ≡ false
+  pub held : scsiperr ≡ enspchk && scsiperr
+
+idle : (a k p s : Bool) → (not a && not k) && (p || not s) ≡ true → Idle a k p s
+idle true k p s h = absurd (false≢true h)
+idle false true p s h = absurd (false≢true h)
+idle false false true s h = record { unaccessed = refl; unacked = refl; held = refl }
+idle false false false true h = absurd (false≢true h)
+idle false false false false h = record { unaccessed = refl; unacked = refl; held = refl }
+
+pub status-idle : (accessed acked enspchk : Bool) (t : Status) → (not accessed && not acked) && (enspchk || not (t .scsiperr)) ≡ true → t ≡ statusA accessed acked enspchk t WordRead
+unfolding statusA clears clearsError writes
+status-idle accessed acked enspchk t h =
+    let i = idle accessed acked enspchk (t .scsiperr) h in
+    rw (i .unaccessed, i .unacked, ← i .held)

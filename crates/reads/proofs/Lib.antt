@@ -1,2 +1,0 @@
-pub mod OfState
-pub mod Unread

@@ -1,8 +1,0 @@
-use borrow.Author.Needs.{needs}
-use Rattle.rules.specs.Seen.{ackDriven}
-use Rattle.registers.proofs.bus.ack_driven.Statement.{statement}
-use Rattle.registers.proofs.bus.ack_driven.Tie as tie
-
-pub ack-driven-spec : {M : Type 1} → statement M
-unfolding ackDriven
-ack-driven-spec = tie.close (tie.spec (λ c κs. search needs) (λ c. rw (c .before .manual .ensures)))

@@ -1,8 +1,0 @@
-use borrow.Author.Needs.{needs}
-use Rattle.rules.specs.Seen.{ackSeen}
-use Rattle.registers.proofs.bus.ack_seen.Statement.{statement}
-use Rattle.registers.proofs.bus.ack_seen.Tie as tie
-
-pub ack-seen-spec : {M : Type 1} → statement M
-unfolding ackSeen
-ack-seen-spec = tie.close (tie.spec (λ c κs. search needs) (λ c. rw (c .before .ack-driven .ensures)))

@@ -1,8 +1,0 @@
-use borrow.Author.Needs.{needs}
-use Rattle.rules.specs.Seen.{connected}
-use Rattle.registers.proofs.bus.connected.Statement.{statement}
-use Rattle.registers.proofs.bus.connected.Tie as tie
-
-pub connected-spec : {M : Type 1} → statement M
-unfolding connected
-connected-spec = tie.close (tie.spec (λ c κs. search needs) (λ c κs. search needs) (λ c κs. search needs) (λ c. rw (c .rst-seen .ensures, c .before .sel-seen .ensures, c .before .before .bsy-seen .ensures)))

@@ -1,8 +1,0 @@
-use borrow.Author.Needs.{needs}
-use Rattle.rules.specs.Seen.{dataSeen}
-use Rattle.registers.proofs.bus.data_seen.Statement.{statement}
-use Rattle.registers.proofs.bus.data_seen.Tie as tie
-
-pub data-seen-spec : {M : Type 1} → statement M
-unfolding dataSeen
-data-seen-spec = tie.close (tie.spec (λ c κs. search needs) (λ c. rw (c .before .data-driven .ensures)))

@@ -1,8 +1,0 @@
-use mathlib.Core.Path.{refl}
-use Rattle.rules.specs.Seen.{selSeen}
-use Rattle.registers.proofs.bus.sel_seen.Statement.{statement}
-use Rattle.registers.proofs.bus.sel_seen.Tie as tie
-
-pub sel-seen-spec : {M : Type 1} → statement M
-unfolding selSeen
-sel-seen-spec = tie.close (tie.spec (λ c. refl))

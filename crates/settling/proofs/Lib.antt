@@ -1,5 +1,0 @@
-pub mod Between
-pub mod Parts
-pub mod Runs
-pub mod Tests
-pub mod Underway

@@ -1,0 +1,49 @@
+// A run of records in one lent slice, their answers in another, over the chip's bytes in one array.
+ghost use mathlib.Core.Path.{_≡_};
+ghost use Prim.Native.Nat.{_+_, _*_, _<_, _≤_, min};
+ghost use lib.ListN.{length};
+ghost use Rattle.image.specs.Image.{IsImage};
+ghost use Rattle.step.specs.Runs.{IsRun, IsTurn};
+use crate::Ran;
+use crate::answers::store_at;
+use crate::reset::tidied;
+use rules::chip::Chip;
+use turns::event::stepped;
+
+fn smaller(a: usize, b: usize) -> usize
+    ensures { λ r. ⌜ r ≡ min a b ⌝ }
+{
+    if a < b { a } else { b }
+}
+
+// Record i, and its answer in its place; the last record ends where the slice does.
+fn turn(m: &mut [u8; 196], records: &[u8], answers: &mut [u8], i: usize)
+    requires { ⌜ IsImage (now m) ⌝ }
+    requires { ⌜ 4 * i < length (now records) ⌝ }
+    requires { ⌜ 16 * i + 16 ≤ length (now answers) ⌝ }
+    ensures { λ _. ⌜ IsTurn (now (m .entry)) (now (records .entry)) (now (answers .entry)) i (now (m .exit)) (now (answers .exit)) ⌝ }
+{
+    let from = 4 * i;
+    let end = smaller(from + 4, records.len());
+    let reply = stepped(m, &records[from..end]);
+    let b = reply.answer;
+    store_at(b, answers, 16 * i);
+}
+
+// As many records as there is room for whole answers; the chip is laid out once and taken up again at the end.
+pub fn run(c: Chip, records: &[u8], answers: &mut [u8]) -> Ran
+    ensures { λ r. ⌜ IsRun c (now (records .entry)) (now (answers .entry)) (now (answers .exit)) r ⌝ }
+{
+    let n = smaller((records.len() + 3) / 4, answers.len() / 16);
+    let chip = tidied(c);
+    let mut m = [0u8; 196];
+    kept::store(chip, &mut m);
+    for i in 0..n {
+        turn(&mut m, records, answers, i);
+    }
+    let last = kept::load(&m);
+    Ran {
+        chip: last,
+        count: n,
+    }
+}
