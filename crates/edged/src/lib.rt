@@ -16,7 +16,7 @@ pub mod since;
 mod single;
 
 // What step B of the next event asks of this one.
-pub fn last_seen(m: &[u8; 196]) -> Before
+fn last_seen(m: &[u8; 196]) -> Before
     ensures { λ b. ⌜ b .rst ≡ rstSeen (registersAt (now (m .entry))) (linesAt (now (m .entry))) ⌝ }
     ensures { λ b. ⌜ b .req ≡ reqSeen (registersAt (now (m .entry))) (linesAt (now (m .entry))) ⌝ }
     ensures { λ b. ⌜ b .mismatched ≡ mismatched (registersAt (now (m .entry))) (linesAt (now (m .entry))) ⌝ }
@@ -29,7 +29,7 @@ pub fn last_seen(m: &[u8; 196]) -> Before
 }
 
 // The edges between the end of the last event and now, after A.
-pub fn edges_of(m: &[u8; 196], was: Before, ticks: u32) -> Edges
+fn edges_of(m: &[u8; 196], was: Before, ticks: u32) -> Edges
     requires { ⌜ IsImage (now m) ⌝ }
     ensures { λ r. ⌜ r ≡ edgesFrom (was .rst) (was .req) (stateAt (now (m .entry))) ticks ⌝ }
 {
@@ -55,7 +55,7 @@ pub fn edges_of(m: &[u8; 196], was: Before, ticks: u32) -> Edges
 }
 
 // The chip after B. The byte is read before the registers change, the phase is judged after.
-pub fn applied_in(m: &mut [u8; 196], g: Edges, was: Before)
+fn applied_in(m: &mut [u8; 196], g: Edges, was: Before)
     requires { ⌜ IsImage (now m) ⌝ }
     requires { ⌜ Room g ((stateAt (now m)) .transfer) ⌝ }
     ensures { λ _. ⌜ now (m .exit) ≡ imageOf (appliedFrom g (was .mismatched) (stateAt (now (m .entry)))) ⌝ }
@@ -80,7 +80,7 @@ fn all_in(m: &mut [u8; 196], was: Before, ticks: u32) -> bool
 }
 
 // B on an image: the edges found and applied, the frequent ones by themselves; whether a REQ went beyond the limit.
-pub fn edges_in(m: &mut [u8; 196], was: Before, ticks: u32) -> bool
+fn edges_in(m: &mut [u8; 196], was: Before, ticks: u32) -> bool
     requires { ⌜ IsImage (now m) ⌝ }
     ensures { λ b. ⌜ b ≡ (edgesFrom (was .rst) (was .req) (stateAt (now (m .entry))) ticks) .beyond ⌝ }
     ensures { λ _. ⌜ now (m .exit) ≡ imageOf (appliedFrom (edgesFrom (was .rst) (was .req) (stateAt (now (m .entry))) ticks) (was .mismatched) (stateAt (now (m .entry)))) ⌝ }

@@ -35,7 +35,7 @@ fn parity_of(driving: bool, driven: u8) -> bool
 }
 
 // The control lines driven, in the order of 343h: CD, IO, MSG and REQ never are.
-pub fn control_driven(m: &[u8; 196]) -> u8
+fn control_driven(m: &[u8; 196]) -> u8
     ensures { λ b. ⌜ b ≡ controlDriven (stateAt (now (m .entry))) ⌝ }
 {
     let acked = ack_driven(m);

@@ -1,3 +1,4 @@
 pub mod EightBits
+pub mod Pastes
 pub mod Phases
 pub mod ReadBack

@@ -275,10 +275,6 @@ module _ (s : State) (f : InRange s) where
       sym (drop-drop 32 36 (imageOf s)) ∙ ap (λ (l : List ℕ). drop 32 l) stack-at
       ∙ drop-at (s .stack .bytes) (padded 128 (s .transfer .host)) 32 (f .stack .size)
 
-  pub length-image : length (imageOf s) ≡ 196
-  unfolding imageOf
-  length-image = simp length-append (omega (arith, scsi-size, host-size, f .stack .size))
-
   pub transfer-back : transferAt (imageOf s) ≡ s .transfer
   unfolding imageOf
   transfer-back =

@@ -1,3 +1,4 @@
 // The chip in the bytes of one array, changed in place.
 pub mod bus;
 pub mod bytes;
+pub mod copies;

@@ -3,4 +3,3 @@ pub mod Pasted
 pub mod Stored
 pub mod Window
 pub mod Held
-pub mod Loaded

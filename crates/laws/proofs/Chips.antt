@@ -15,26 +15,6 @@ module _ (c : Chip) (t : Tidy c) where
   unfolding chipOf
   tidy-path = ap (λ (x : Chip). x .path) (t .packed)
 
-  pub tidy-stack : c .stack ≡ view c .stack
-  unfolding chipOf
-  tidy-stack = ap (λ (x : Chip). x .stack) (t .packed)
-
-  pub tidy-quiet : c .quiet ≡ view c .quiet
-  unfolding chipOf
-  tidy-quiet = ap (λ (x : Chip). x .quiet) (t .packed)
-
-  pub tidy-identity : c .identity ≡ view c .identity
-  unfolding chipOf
-  tidy-identity = ap (λ (x : Chip). x .identity) (t .packed)
-
-  pub tidy-offset : c .path .offset ≡ view c .transfer .offset
-  unfolding pathOf
-  tidy-offset = ap (λ (p : DataPath). p .offset) tidy-path
-
-  pub tidy-counter : c .path .counter ≡ view c .transfer .counter
-  unfolding pathOf
-  tidy-counter = ap (λ (p : DataPath). p .counter) tidy-path
-
   -- the counts are the lengths of what they show
   pub tidy-host : c .path .host .count ≡ length (view c .transfer .host)
   unfolding pathOf

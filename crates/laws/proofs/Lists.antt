@@ -64,13 +64,6 @@ take-clamped m k n l e p = go (decLe k m)
         ap (λ (j : ℕ). take j l) z
     go (no h) = take-all n l (omega arith) ∙ sym (take-all k l (omega arith))
 
--- past what a count shows
-pub shown-none : (n j : ℕ) (l : List ℕ) → n ≤ j → 0 ≡ getD (take n l) j 0
-shown-none n j l h =
-    let e : length (take n l) ≡ min n (length l) = length-take n l in
-    let k : length (take n l) ≤ j = omega arith in
-    sym (List·getD-eq-default (take n l) 0 k)
-
 -- the first, where there is one
 pub take-one : (l : List ℕ) → 0 < length l → take 1 l ≡ getD l 0 0 ∷ []
 take-one l h = take-suc l 0 0 h
@@ -104,12 +97,6 @@ padded-shift n k l h g =
     let r : z ++ y ≡ replicate (n - length (drop k l)) 0 = replicate-append-replicate (n - length l) (n - (n - k)) 0 ∙ ap (λ (j : ℕ). replicate j 0) q in
     rw (d, t, m, append-assoc, r)
 
--- a count that shows as many as it says is no more than the places
-pub count-fits : (n c : ℕ) (bs : List ℕ) → length bs ≡ n → c ≡ length (take c bs) → c ≤ n
-count-fits n c bs e q =
-    let t : length (take c bs) ≡ min c (length bs) = length-take c bs in
-    omega arith
-
 -- bytes with any count c, of which m can be there
 module _ (n c m : ℕ) (bs : List ℕ) (e : length bs ≡ n) (p : m ≡ min c n) where
   shown : length (take c bs) ≡ m
@@ -129,12 +116,6 @@ module _ (n c m : ℕ) (bs : List ℕ) (e : length bs ≡ n) (p : m ≡ min c n)
 
 -- a type whose values keep bytes with their count, at most n, and the value of a list
 module _ (F : Type 0) (n : ℕ) (bytes : F → List ℕ) (count : F → ℕ) (of : List ℕ → F) (at-bytes : (l : List ℕ) → bytes (of l) ≡ padded n l) (at-count : (l : List ℕ) → count (of l) ≡ length l) where
-  pub view-of : (f : F) (l : List ℕ) → f ≡ of l → take (count f) (bytes f) ≡ l
-  view-of f l e = rw (e, at-bytes l, at-count l) (padded-take n l)
-
-  pub tidy-of : (f : F) (l : List ℕ) → f ≡ of l → f ≡ of (take (count f) (bytes f))
-  tidy-of f l e = e ∙ ap of (sym (view-of f l e))
-
   pub count-of : (f : F) (l : List ℕ) → f ≡ of l → count f ≡ length l
   count-of f l e = ap count e ∙ at-count l
 

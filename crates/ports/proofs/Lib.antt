@@ -1,3 +1,2 @@
-pub mod Pasted
 pub mod Fronts
 pub mod Heads

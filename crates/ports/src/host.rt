@@ -5,8 +5,8 @@ ghost use Prim.Native.Nat.{_+_, _%_, _/_, _<_, _≤_};
 ghost use lib.ListN.{getD, set, drop};
 ghost use Rattle.image.specs.Image.{imageOf, stateAt, IsImage};
 ghost use Rattle.ports.specs.Ready.{withHost};
-use crate::places::moved;
-use crate::places::zeroed;
+use image::copies::copied;
+use image::copies::zeroed;
 
 // One byte more.
 fn push(m: &mut [u8; 196], b: u8)
@@ -45,7 +45,7 @@ pub fn host_popped(m: &mut [u8; 196], k: usize)
 {
     let n = m[24] as usize;
     let rest = n - k;
-    moved(m, 68, k, rest);
+    copied(m, 68 + k, 68, rest);
     zeroed(m, 68 + rest, k);
     m[24] = rest as u8;
 }

@@ -1,5 +1,4 @@
 // What A changes of the data path, in place: the two FIFOs, the counter, the offset and the automatic ACK.
 pub mod counts;
 pub mod host;
-mod places;
 pub mod scsi;

@@ -3,7 +3,7 @@ ghost use mathlib.Core.Path.{_≡_};
 ghost use mathlib.Core.List.{[]};
 ghost use Rattle.image.specs.Image.{imageOf, stateAt, IsImage};
 ghost use Rattle.ports.specs.Ready.{withScsi, withOffset};
-use crate::places::zeroed;
+use image::copies::zeroed;
 
 // "CLRCH empties the SCSI FIFO and zeroes the offset"
 pub fn channel_cleared(m: &mut [u8; 196])

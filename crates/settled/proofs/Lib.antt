@@ -5,7 +5,6 @@ pub mod Handshakes
 pub mod Kept
 pub mod Looked
 pub mod Parts
-pub mod Pastes
 pub mod Places
 pub mod Runs
 pub mod ShakeParts

@@ -6,6 +6,7 @@ ghost use lib.ListN.{length};
 ghost use Rattle.image.specs.Image.{IsImage, imageOf, stateAt, withTransfer};
 ghost use Rattle.settled.specs.Parts.{movable, carried};
 ghost use Rattle.settled.specs.Steps.{Moves};
+use image::copies::copied;
 use rules::chip::Conditions;
 
 // k bytes from the host FIFO behind those of the SCSI FIFO.
@@ -17,7 +18,7 @@ fn carried_out(m: &mut [u8; 196], k: usize)
 {
     let held = crate::copies::wide(m[23]);
     let n = crate::copies::wide(m[24]);
-    crate::copies::copied(m, 68, 28 + held, k);
+    copied(m, 68, 28 + held, k);
     crate::copies::moved_down(m, 68, n, k);
     m[23] = (held + k) as u8;
     m[24] = (n - k) as u8;
@@ -32,7 +33,7 @@ fn carried_in(m: &mut [u8; 196], k: usize)
 {
     let n = crate::copies::wide(m[23]);
     let held = crate::copies::wide(m[24]);
-    crate::copies::copied(m, 28, 68 + held, k);
+    copied(m, 28, 68 + held, k);
     crate::copies::moved_down(m, 28, n, k);
     m[23] = (n - k) as u8;
     m[24] = (held + k) as u8;

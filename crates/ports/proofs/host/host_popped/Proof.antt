@@ -12,7 +12,7 @@ zeroed-requires c κs =
     let m = a .args .m .now in
     let p = placed-at m (a .pre .0) in
     let h = count-fits p (a .pre .0 .packed) in
-    (moved-length m 68 (a .args .k) (getD m 24 0 - a .args .k) (c .before .moved .ensures) (image-length p (a .pre .0 .packed)) (omega (arith, a .pre .1, h)), omega (arith, a .pre .1, h))
+    (moved-length m 68 (a .args .k) (getD m 24 0 - a .args .k) (c .before .copied .ensures) (image-length p (a .pre .0 .packed)) (omega (arith, a .pre .1, h)), omega (arith, a .pre .1, h))
 
 cast-n : tie.Need-cast-n
 cast-n c =
@@ -29,16 +29,22 @@ cast-m c =
     let a = c .before .before .before .before .before in
     record { fits = omega (arith, count-fits (placed-at (a .args .m .now) (a .pre .0)) (a .pre .0 .packed)) }
 
-moved-requires : tie.Need-moved-requires
-moved-requires c κs =
+add-copied : tie.Need-add-copied
+add-copied c =
+    let a = c .before .before in
+    record { fits = omega (arith, a .pre .1, count-fits (placed-at (a .args .m .now) (a .pre .0)) (a .pre .0 .packed)) }
+
+copied-requires : tie.Need-copied-requires
+copied-requires c κs =
     let a = c .before .before in
     let p = placed-at (a .args .m .now) (a .pre .0) in
-    (image-length p (a .pre .0 .packed), omega (arith, a .pre .1, count-fits p (a .pre .0 .packed)))
+    let h = count-fits p (a .pre .0 .packed) in
+    (image-length p (a .pre .0 .packed), (omega (arith, a .pre .1, h), (omega (arith, a .pre .1, h), (λ l. omega (arith, l)))))
 
 returns : tie.Need-returns
 returns c =
     let a = c .before .before .before .before .before in
-    popped (placed-at (a .args .m .now) (a .pre .0)) (a .pre .0 .packed) (a .args .k) (a .pre .1) (c .before .before .moved .ensures) (c .zeroed .ensures)
+    popped (placed-at (a .args .m .now) (a .pre .0)) (a .pre .0 .packed) (a .args .k) (a .pre .1) (c .before .before .copied .ensures) (c .zeroed .ensures)
 
 pub host-popped-spec : {M : Type 1} → statement M
 host-popped-spec =
@@ -47,7 +53,8 @@ host-popped-spec =
     (λ c. search needs)
     cast-n
     (λ c. search needs)
-    moved-requires
+    add-copied
+    copied-requires
     add-zeroed
     zeroed-requires
     cast-m

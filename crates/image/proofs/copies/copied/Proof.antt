@@ -1,9 +1,9 @@
 use Prim.Native.Nat.{_-_}
 use native.Mathlib.Omega.{arith}
 use lib.ListN.{drop, length-drop}
-use Rattle.settled.proofs.Pastes.{Pasted, begun, again, ended, unwritten}
-use Rattle.settled.proofs.copies.copied.Statement.{statement}
-use Rattle.settled.proofs.copies.copied.Tie as tie
+use Rattle.image.proofs.Pastes.{Pasted, begun, again, ended, unwritten}
+use Rattle.image.proofs.copies.copied.Statement.{statement}
+use Rattle.image.proofs.copies.copied.Tie as tie
 
 abbrev Inv-loop : tie.InvT-loop
 Inv-loop m₀ from to n i₀ m i = Pasted m₀ to (drop from m₀) n m i

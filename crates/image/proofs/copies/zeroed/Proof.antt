@@ -2,9 +2,9 @@ use Prim.Native.Nat.{_-_}
 use native.Mathlib.Omega.{arith}
 use mathlib.Core.Path.{refl, sym}
 use lib.ListN.{replicate, length-replicate, getD-replicate}
-use Rattle.settled.proofs.Pastes.{Pasted, begun, again, ended}
-use Rattle.settled.proofs.copies.zeroed.Statement.{statement}
-use Rattle.settled.proofs.copies.zeroed.Tie as tie
+use Rattle.image.proofs.Pastes.{Pasted, begun, again, ended}
+use Rattle.image.proofs.copies.zeroed.Statement.{statement}
+use Rattle.image.proofs.copies.zeroed.Tie as tie
 
 abbrev Inv-loop : tie.InvT-loop
 Inv-loop m₀ at n i₀ m i = Pasted m₀ at (replicate n 0) n m i
