@@ -2,8 +2,9 @@
  * measure REPEATS PROVED REFERENCE STREAM..
  *
  * Times both programs over each stream (standard output to nothing), then both libraries over it in one call, turn by turn, and
- * prints the best time of each and the ratio of the proved to the other. Times are processor time, user and system, since both
- * sides have one thread: other load on the machine then counts least. The answer buffers are written over once before.
+ * prints the best time of each, and the median of the ratios of the proved to the other: the two of a ratio are timed one right
+ * after the other, so that a processor whose clock moves moves both. Times are processor time, user and system, since both sides
+ * have one thread: other load on the machine then counts least. The answer buffers are written over once before.
  */
 #define _DEFAULT_SOURCE
 #include <fcntl.h>
@@ -19,6 +20,8 @@
 #include "rabenteig.h"
 
 size_t reference_run(const uint8_t *records, size_t records_length, uint8_t *answers, size_t answers_length);
+
+enum { MOST = 999 };
 
 typedef size_t run_function(const uint8_t *, size_t, uint8_t *, size_t);
 
@@ -65,13 +68,24 @@ static double library_time(run_function *run, const uint8_t *records, size_t len
     return (double)(to.tv_sec - from.tv_sec) + (double)(to.tv_nsec - from.tv_nsec) / 1e9;
 }
 
-static double least(double a, double b) { return a < b ? a : b; }
-
-static void print_row(const char *name, const char *what, size_t events, double proved, double other)
+static int by_size(const void *a, const void *b)
 {
+    double x = *(const double *)a, y = *(const double *)b;
+    return (x > y) - (x < y);
+}
+
+/* The times of both sides, repeat by repeat; both are left in order of size. */
+static void print_row(const char *name, const char *what, size_t events, int repeats, double *proved, double *other)
+{
+    double ratios[MOST];
+    for (int i = 0; i < repeats; i++)
+        ratios[i] = proved[i] / other[i];
+    qsort(ratios, (size_t)repeats, sizeof(double), by_size);
+    qsort(proved, (size_t)repeats, sizeof(double), by_size);
+    qsort(other, (size_t)repeats, sizeof(double), by_size);
     double millions = (double)events / 1e6;
-    printf("| %s | %s | %.0f | %.3f | %.3f | %.1f | %.1f | %.2f |\n", name, what, millions, proved, other, millions / proved,
-           millions / other, proved / other);
+    printf("| %s | %s | %.1f | %.3f | %.3f | %.1f | %.1f | %.2f |\n", name, what, millions, proved[0], other[0], millions / proved[0],
+           millions / other[0], ratios[repeats / 2]);
     fflush(stdout);
 }
 
@@ -107,15 +121,15 @@ static void measure(int repeats, const char *proved, const char *reference, cons
     size_t events = (length + 3) / 4;
     uint8_t *ours = room(16 * events);
     uint8_t *theirs = room(16 * events);
-    double best[4] = {1e9, 1e9, 1e9, 1e9};
+    double times[4][MOST];
     for (int i = 0; i < repeats; i++) {
-        best[0] = least(best[0], program_time(proved, stream));
-        best[1] = least(best[1], program_time(reference, stream));
-        best[2] = least(best[2], library_time(rabenteig_run, records, length, ours, events));
-        best[3] = least(best[3], library_time(reference_run, records, length, theirs, events));
+        times[0][i] = program_time(proved, stream);
+        times[1][i] = program_time(reference, stream);
+        times[2][i] = library_time(rabenteig_run, records, length, ours, events);
+        times[3][i] = library_time(reference_run, records, length, theirs, events);
     }
-    print_row(name, "program", events, best[0], best[1]);
-    print_row(name, "library", events, best[2], best[3]);
+    print_row(name, "program", events, repeats, times[0], times[1]);
+    print_row(name, "library", events, repeats, times[2], times[3]);
     if (memcmp(ours, theirs, 16 * events) != 0) {
         printf("the answers differ\n");
         exit(1);
@@ -127,8 +141,8 @@ static void measure(int repeats, const char *proved, const char *reference, cons
 
 int main(int count, char **words)
 {
-    if (count < 5 || atoi(words[1]) < 1) {
-        fprintf(stderr, "usage: measure REPEATS PROVED REFERENCE STREAM..\n");
+    if (count < 5 || atoi(words[1]) < 1 || atoi(words[1]) > MOST) {
+        fprintf(stderr, "usage: measure REPEATS PROVED REFERENCE STREAM..  (1 to %d repeats)\n", MOST);
         return 2;
     }
     printf("| stream | what | million events | proved s | reference s | proved M/s | reference M/s | ratio |\n");
