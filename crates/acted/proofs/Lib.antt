@@ -1,4 +1,5 @@
 pub mod Accesses
+pub mod Cleared
 pub mod Coding
 pub mod DoneCode
 pub mod Driven

@@ -1,7 +1,6 @@
 // A register write, by what stands at its offset.
 ghost use mathlib.Core.Path.{_≡_};
 ghost use Rattle.rules.specs.Map.{offsetOf};
-ghost use Rattle.rules.specs.State.{State};
 ghost use Rattle.rules.specs.declared.map.Register.the-variants.{SXFRCTL0, STCNT0, STCNT1, STCNT2, SCSITEST, DMACNTRL0, DMACNTRL1, STACK, TEST};
 ghost use Rattle.rules.specs.declared.records.Event.the-variants.{Write};
 ghost use Rattle.image.specs.Image.{IsImage, imageOf, stateAt};
@@ -84,7 +83,8 @@ fn channel_by(m: &mut [u8; 196], value: u8)
 
 // "CLRSTCNT zeroes the counter"
 fn counter_by(m: &mut [u8; 196], value: u8)
-    ensures { λ _. ⌜ ((s : State) → now (m .entry) ≡ imageOf s → now (m .exit) ≡ imageOf (counterCleared s value)) ⌝ }
+    requires { ⌜ IsImage (now m) ⌝ }
+    ensures { λ _. ⌜ now (m .exit) ≡ imageOf (counterCleared (stateAt (now (m .entry))) value) ⌝ }
 {
     let clears = (value >> 4) % 2 == 1;
     if clears {

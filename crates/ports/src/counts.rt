@@ -2,14 +2,14 @@
 ghost use mathlib.Core.Path.{_≡_};
 ghost use mathlib.Core.Bool.{true};
 ghost use Prim.Native.Nat.{_+_, _*_};
-ghost use Rattle.rules.specs.State.{State};
 ghost use Rattle.rules.specs.Counter.{counted, counterWith};
-ghost use Rattle.image.specs.Image.{imageOf};
-ghost use Rattle.ports.specs.Ready.{Placed, withCounter, withAck};
+ghost use Rattle.image.specs.Image.{imageOf, stateAt, IsImage};
+ghost use Rattle.ports.specs.Ready.{withCounter, withAck};
 
 // "CLRSTCNT zeroes the counter"
 pub fn counter_zeroed(m: &mut [u8; 196])
-    ensures { λ _. ⌜ ((s : State) → now (m .entry) ≡ imageOf s → now (m .exit) ≡ imageOf (withCounter 0 s)) ⌝ }
+    requires { ⌜ IsImage (now m) ⌝ }
+    ensures { λ _. ⌜ now (m .exit) ≡ imageOf (withCounter 0 (stateAt (now (m .entry)))) ⌝ }
 {
     m[25] = 0;
     m[26] = 0;
@@ -18,19 +18,22 @@ pub fn counter_zeroed(m: &mut [u8; 196])
 
 // "The counter writes as 24 bits, 348h lowest"
 pub fn low_written(m: &mut [u8; 196], value: u8)
-    ensures { λ _. ⌜ ((s : State) → now (m .entry) ≡ imageOf s → now (m .exit) ≡ imageOf (withCounter (counterWith 0 value (s .transfer .counter)) s)) ⌝ }
+    requires { ⌜ IsImage (now m) ⌝ }
+    ensures { λ _. ⌜ now (m .exit) ≡ imageOf (withCounter (counterWith 0 value ((stateAt (now (m .entry))) .transfer .counter)) (stateAt (now (m .entry)))) ⌝ }
 {
     m[25] = value;
 }
 
 pub fn middle_written(m: &mut [u8; 196], value: u8)
-    ensures { λ _. ⌜ ((s : State) → now (m .entry) ≡ imageOf s → now (m .exit) ≡ imageOf (withCounter (counterWith 1 value (s .transfer .counter)) s)) ⌝ }
+    requires { ⌜ IsImage (now m) ⌝ }
+    ensures { λ _. ⌜ now (m .exit) ≡ imageOf (withCounter (counterWith 1 value ((stateAt (now (m .entry))) .transfer .counter)) (stateAt (now (m .entry)))) ⌝ }
 {
     m[26] = value;
 }
 
 pub fn high_written(m: &mut [u8; 196], value: u8)
-    ensures { λ _. ⌜ ((s : State) → now (m .entry) ≡ imageOf s → now (m .exit) ≡ imageOf (withCounter (counterWith 2 value (s .transfer .counter)) s)) ⌝ }
+    requires { ⌜ IsImage (now m) ⌝ }
+    ensures { λ _. ⌜ now (m .exit) ≡ imageOf (withCounter (counterWith 2 value ((stateAt (now (m .entry))) .transfer .counter)) (stateAt (now (m .entry)))) ⌝ }
 {
     m[27] = value;
 }
@@ -43,7 +46,8 @@ fn joined(low: u8, middle: u8, high: u8) -> u32
 
 // "adds one to the counter", modulo 16,777,216
 fn one_more(m: &mut [u8; 196])
-    ensures { λ _. ⌜ ((s : State) → Placed s → now (m .entry) ≡ imageOf s → now (m .exit) ≡ imageOf (withCounter (counted (s .transfer .counter)) s)) ⌝ }
+    requires { ⌜ IsImage (now m) ⌝ }
+    ensures { λ _. ⌜ now (m .exit) ≡ imageOf (withCounter (counted ((stateAt (now (m .entry))) .transfer .counter)) (stateAt (now (m .entry)))) ⌝ }
 {
     let n = counter::counted(joined(m[25], m[26], m[27]));
     let low = counter::counter_byte(0, n);
@@ -56,7 +60,8 @@ fn one_more(m: &mut [u8; 196])
 
 // "turns automatic ACK on, adds one to the counter"
 pub fn acknowledged(m: &mut [u8; 196])
-    ensures { λ _. ⌜ ((s : State) → Placed s → now (m .entry) ≡ imageOf s → now (m .exit) ≡ imageOf (withAck true (withCounter (counted (s .transfer .counter)) s))) ⌝ }
+    requires { ⌜ IsImage (now m) ⌝ }
+    ensures { λ _. ⌜ now (m .exit) ≡ imageOf (withAck true (withCounter (counted ((stateAt (now (m .entry))) .transfer .counter)) (stateAt (now (m .entry))))) ⌝ }
 {
     one_more(m);
     m[18] = 1;

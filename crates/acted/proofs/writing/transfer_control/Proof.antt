@@ -3,17 +3,23 @@ use mathlib.Core.Bool.{false}
 use borrow.Author.Needs.{needs}
 use Rattle.rules.specs.Map.{table, writtenAt}
 use Rattle.rules.specs.declared.records.Event.the-variants.{WordRead}
+use Rattle.acted.proofs.Cleared.{channel-image, both-cleared}
 use Rattle.acted.proofs.Reached.{start, there, carried, stored, flagged, acts}
 use Rattle.acted.proofs.Effects.{leaves, sxfrctl0}
 use Rattle.acted.proofs.writing.transfer_control.Statement.{statement}
 use Rattle.acted.proofs.writing.transfer_control.Tie as tie
+
+counter-by-requires : tie.Need-counter-by-requires
+counter-by-requires c κs =
+    let a = c .before .before .before in
+    channel-image (a .args .value) (a .pre) (c .before .channel-by .ensures)
 
 stored-requires : tie.Need-stored-requires
 unfolding table writtenAt
 stored-requires c κs =
     let x = c .before .before .before in
     let a = x .before .before in
-    (there (carried (leaves sxfrctl0 (a .pre) (a .fits .value .fits)) (start (a .pre)) (c .before .counter-by .ensures _ (x .channel-by .ensures))), refl)
+    (there (carried (leaves sxfrctl0 (a .pre) (a .fits .value .fits)) (start (a .pre)) (both-cleared (a .args .value) (a .pre) (x .channel-by .ensures) (c .before .counter-by .ensures))), refl)
 
 status-kept-in-requires : tie.Need-status-kept-in-requires
 status-kept-in-requires c κs =
@@ -21,7 +27,7 @@ status-kept-in-requires c κs =
     let x = y .before .before in
     let a = x .before .before in
     let l = leaves sxfrctl0 (a .pre) (a .fits .value .fits) in
-    there (stored l (carried l (start (a .pre)) (y .counter-by .ensures _ (x .channel-by .ensures))) refl (c .before .stored .ensures))
+    there (stored l (carried l (start (a .pre)) (both-cleared (a .args .value) (a .pre) (x .channel-by .ensures) (y .counter-by .ensures))) refl (c .before .stored .ensures))
 
 returns : tie.Need-returns
 returns c =
@@ -30,9 +36,9 @@ returns c =
     let x = y .before .before in
     let a = x .before .before in
     let l = leaves sxfrctl0 (a .pre) (a .fits .value .fits) in
-    let i = stored l (carried l (start (a .pre)) (y .counter-by .ensures _ (x .channel-by .ensures))) refl (z .stored .ensures) in
+    let i = stored l (carried l (start (a .pre)) (both-cleared (a .args .value) (a .pre) (x .channel-by .ensures) (y .counter-by .ensures))) refl (z .stored .ensures) in
     acts l (flagged i false false WordRead (c .before .status-kept-in .ensures)) (c .done-with .ensures)
 
 pub transfer-control-spec : {M : Type 1} → statement M
 transfer-control-spec =
-    tie.close (tie.spec (λ c κs. search needs) (λ c κs. search needs) stored-requires status-kept-in-requires (λ c κs. search needs) returns)
+    tie.close (tie.spec (λ c κs. search needs) counter-by-requires stored-requires status-kept-in-requires (λ c κs. search needs) returns)
