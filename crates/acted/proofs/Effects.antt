@@ -7,7 +7,6 @@ use native.Mathlib.Omega.{arith}
 use lib.ListN.{getD}
 use Rattle.rules.specs.Numbers.{bit}
 use Rattle.rules.specs.State.{State}
-use Rattle.rules.specs.Counter.{counterWith}
 use Rattle.rules.specs.Stack.{stackWritten, pointed}
 use Rattle.rules.specs.Codes.{accessCode}
 use Rattle.rules.specs.Events.{writes, reads}
@@ -16,7 +15,7 @@ use Rattle.rules.specs.declared.codes.Code.the-variants.{Done}
 use Rattle.rules.specs.declared.map.Register.the-variants.{SCSISEQ, SXFRCTL1, SCSISIGO, SCSIRATE, SCSIID, SIMODE0, SIMODE1, BRSTCNTRL}
 use Rattle.rules.specs.declared.records.Event.the-variants.{Write, WordRead}
 use Rattle.image.specs.Image.{stateAt, IsImage, withStatus, withLatches, withStack}
-use Rattle.ports.specs.Ready.{withHost, withCounter}
+use Rattle.ports.specs.Ready.{withHost, counterWritten}
 use Rattle.acted.specs.Writes.{Leaving, Does, Plain, storing, kept, channelCleared, counterCleared, hostCleared, ackCounted}
 use Rattle.acted.proofs.Reached.{Leaves}
 use Rattle.acted.proofs.WriteCodes.{write-code, Test, test-done}
@@ -84,15 +83,15 @@ unfolding Leaving
 fills {m} g {v} f p q = record { image = g; fits = (scsidat .fits, f); done = scsidat .done (stateAt m) v (g .range .transfer .host); after = (λ i. latchFilled (p i) (q i) (stateAt m) v) ∙ scsidat .after (stateAt m) v }
 
 -- "The counter writes as 24 bits, 348h lowest"
-pub stcnt0 : Does 0x08 (λ (s : State) (v : ℕ). kept (withCounter (counterWith 0 v (s .transfer .counter)) s))
+pub stcnt0 : Does 0x08 (λ (s : State) (v : ℕ). kept (counterWritten 0 v s))
 unfolding Leaving
 stcnt0 = record { fits = omega arith; done = λ s v. write-code s 0x08 v; after = λ s v. refl }
 
-pub stcnt1 : Does 0x09 (λ (s : State) (v : ℕ). kept (withCounter (counterWith 1 v (s .transfer .counter)) s))
+pub stcnt1 : Does 0x09 (λ (s : State) (v : ℕ). kept (counterWritten 1 v s))
 unfolding Leaving
 stcnt1 = record { fits = omega arith; done = λ s v. write-code s 0x09 v; after = λ s v. refl }
 
-pub stcnt2 : Does 0x0A (λ (s : State) (v : ℕ). kept (withCounter (counterWith 2 v (s .transfer .counter)) s))
+pub stcnt2 : Does 0x0A (λ (s : State) (v : ℕ). kept (counterWritten 2 v s))
 unfolding Leaving
 stcnt2 = record { fits = omega arith; done = λ s v. write-code s 0x0A v; after = λ s v. refl }
 

@@ -1,7 +1,7 @@
 -- The array after B, from its parts one after the other.
 use Prim.Native.Nat.{ℕ}
 use mathlib.Core.Path.{_≡_, refl, ap, _∙_}
-use mathlib.Core.Bool.{Bool, true, false, not, _&&_, cond}
+use mathlib.Core.Bool.{Bool, true, false, not, _&&_, _||_, cond}
 use mathlib.Core.List.{List, [], _∷_, _++_}
 use lib.ListN.{set}
 use Rattle.rules.specs.State.{State, Transfer}
@@ -13,7 +13,8 @@ use Rattle.rules.specs.declared.chip.Edges.{Edges}
 use Rattle.image.specs.Image.{imageOf, stateAt, registersAt, linesAt, transferAt, withRegisters, withTransfer, withStatus, withQuiet}
 use Rattle.image.proofs.EightBits.{bit-0, bit-1, bit-2, bit-3, bit-4, bit-5, bit-6, bit-7}
 use Rattle.edged.specs.From.{appliedFrom}
-use Rattle.edged.proofs.Placed.{seq-at, sig-at, quiet-placed}
+use Rattle.edged.specs.Stored.{registersStored, statusStored}
+use Rattle.edged.proofs.Placed.{seq-at, sig-at, registers-placed, status-placed, quiet-placed}
 
 lines-at : (s : State) → linesAt (imageOf s) ≡ s .lines
 unfolding imageOf
@@ -30,9 +31,6 @@ lines-at s =
       bit-1 (s .lines .cd) (s .lines .io) (s .lines .msg) (s .lines .atn) (s .lines .sel) (s .lines .bsy) (s .lines .req) (s .lines .ack),
       bit-0 (s .lines .cd) (s .lines .io) (s .lines .msg) (s .lines .atn) (s .lines .sel) (s .lines .bsy) (s .lines .req) (s .lines .ack),
     )
-
-pub lines-of : (m : List ℕ) (s : State) → m ≡ imageOf s → linesAt m ≡ s .lines
-lines-of m s e = ap linesAt e ∙ lines-at s
 
 -- a mismatch is seen by 340h, 343h and the lines alone
 mismatched-by : (r q : Registers) (l k : Lines) → r .scsisig ≡ q .scsisig → r .scsiseq ≡ q .scsiseq → l ≡ k → mismatched r l ≡ mismatched q k
@@ -61,17 +59,17 @@ applied-made : (g : Edges) (was : Bool) (s : State) {changed : Bool} → changed
 unfolding appliedFrom
 applied-made g was s a = rw a
 
-applied-placed : (g : Edges) (was : Bool) (s : State) {a b d : List ℕ} {seen : Bool} → a ≡ imageOf (withTransfer (transferB g (dataSeen (s .registers) (s .lines) (s .transfer)) (s .transfer)) s) → ((t : State) → a ≡ imageOf t → b ≡ imageOf (withRegisters (registersB (g .rstrises) (g .paritybad) (g .free) (t .registers)) t)) → seen ≡ mismatched (registersAt b) (linesAt b) → ((t : State) → b ≡ imageOf t → d ≡ imageOf (withStatus (statusB g (seen && not was) (t .status)) t)) → set d 20 (g .quiet) ≡ imageOf (appliedFrom g was s)
+applied-placed : (g : Edges) (was : Bool) (s : State) {a b d : List ℕ} {seen : Bool} → a ≡ imageOf (withTransfer (transferB g (dataSeen (s .registers) (s .lines) (s .transfer)) (s .transfer)) s) → b ≡ cond (g .rstrises || g .paritybad || g .free) (registersStored (g .rstrises) (g .paritybad) (g .free) a) a → seen ≡ mismatched (registersAt b) (linesAt b) → d ≡ statusStored (statusB g (seen && not was)) b → set d 20 (g .quiet) ≡ imageOf (appliedFrom g was s)
 applied-placed g was s {a} {b} {d} {seen} p q f r =
     let t : State = withTransfer (transferB g (dataSeen (s .registers) (s .lines) (s .transfer)) (s .transfer)) s in
     let u : State = withRegisters (registersB (g .rstrises) (g .paritybad) (g .free) (s .registers)) t in
     let v : State = withStatus (statusB g (seen && not was) (s .status)) u in
-    let i : b ≡ imageOf u = q t p in
-    let j : d ≡ imageOf v = r u i in
+    let i : b ≡ imageOf u = registers-placed (g .rstrises) (g .paritybad) (g .free) t p q in
+    let j : d ≡ imageOf v = status-placed (statusB g (seen && not was)) u i r in
     quiet-placed d (g .quiet) v j
     ∙ ap imageOf (applied-made g was s (ap (λ (x : Bool). x && not was) (f ∙ mismatched-at b u i)))
 
-pub applied-in : (g : Edges) (was : Bool) (m : List ℕ) {a b d : List ℕ} {byte : ℕ} {seen : Bool} → byte ≡ cond (g .stored) (dataSeen (registersAt m) (linesAt m) (transferAt m)) 0 → a ≡ imageOf (withTransfer (transferB g byte ((stateAt m) .transfer)) (stateAt m)) → ((t : State) → a ≡ imageOf t → b ≡ imageOf (withRegisters (registersB (g .rstrises) (g .paritybad) (g .free) (t .registers)) t)) → seen ≡ mismatched (registersAt b) (linesAt b) → ((t : State) → b ≡ imageOf t → d ≡ imageOf (withStatus (statusB g (seen && not was) (t .status)) t)) → set d 20 (g .quiet) ≡ imageOf (appliedFrom g was (stateAt m))
+pub applied-in : (g : Edges) (was : Bool) (m : List ℕ) {a b d : List ℕ} {byte : ℕ} {seen : Bool} → byte ≡ cond (g .stored) (dataSeen (registersAt m) (linesAt m) (transferAt m)) 0 → a ≡ imageOf (withTransfer (transferB g byte ((stateAt m) .transfer)) (stateAt m)) → b ≡ cond (g .rstrises || g .paritybad || g .free) (registersStored (g .rstrises) (g .paritybad) (g .free) a) a → seen ≡ mismatched (registersAt b) (linesAt b) → d ≡ statusStored (statusB g (seen && not was)) b → set d 20 (g .quiet) ≡ imageOf (appliedFrom g was (stateAt m))
 applied-in g was m e p q f r =
     let s : State = stateAt m in
     let x : ℕ = dataSeen (s .registers) (s .lines) (s .transfer) in

@@ -35,15 +35,25 @@ module _ (m : List ℕ) (rst req : Bool) (ticks : ℕ) where
   not-free e f = rw e at f
 
 -- the quiet ticks and the phase
-module _ (m : List ℕ) (packed : m ≡ imageOf (stateAt m)) (was : Bool) (q : ℕ) {n : List ℕ} (then : (t : State) → set m 20 q ≡ imageOf t → n ≡ imageOf (phaseB was t)) where
+module _ (m : List ℕ) (packed : m ≡ imageOf (stateAt m)) (q : ℕ) where
+  quiet-again : stateAt (imageOf (withQuiet q (stateAt m))) ≡ withQuiet q (stateAt m)
+  quiet-again = quiet-back (stateAt m) q (ap stateAt (sym packed))
+
+  quieted-back : stateAt (set m 20 q) ≡ withQuiet q (stateAt m)
+  quieted-back = ap stateAt (quiet-placed m q (stateAt m) packed) ∙ quiet-again
+
+  pub quieted : set m 20 q ≡ imageOf (stateAt (set m 20 q))
+  quieted = packed-as (withQuiet q (stateAt m)) (quiet-placed m q (stateAt m) packed) quieted-back
+
+module _ (m : List ℕ) (packed : m ≡ imageOf (stateAt m)) (was : Bool) (q : ℕ) {n : List ℕ} (then : n ≡ imageOf (phaseB was (stateAt (set m 20 q)))) where
   abbrev t : State
   t = phaseB was (withQuiet q (stateAt m))
 
   phased : n ≡ imageOf t
-  phased = then (withQuiet q (stateAt m)) (quiet-placed m q (stateAt m) packed)
+  phased = then ∙ ap (λ (x : State). imageOf (phaseB was x)) (quieted-back m packed q)
 
   phased-back : stateAt n ≡ t
-  phased-back = ap stateAt phased ∙ status-back (withQuiet q (stateAt m)) _ (quiet-back (stateAt m) q (ap stateAt (sym packed)))
+  phased-back = ap stateAt phased ∙ status-back (withQuiet q (stateAt m)) _ (quiet-again m packed q)
 
   pub phased-packed : n ≡ imageOf (stateAt n)
   phased-packed = packed-as t phased phased-back

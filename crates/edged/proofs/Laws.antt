@@ -16,7 +16,7 @@ busy-after true r l = refl
 busy-after false r l = refl
 
 -- without a bus reset, a parity error and bus free the registers stay
-pub registers-kept : (reset bad free : Bool) (r : Registers) → not (reset || bad || free) ≡ true → r ≡ registersB reset bad free r
+pub registers-kept : (reset bad free : Bool) (r : Registers) → (reset || bad || free) ≡ false → r ≡ registersB reset bad free r
 unfolding registersB
 registers-kept true bad free r e = cc
 registers-kept false true free r e = cc

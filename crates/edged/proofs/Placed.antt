@@ -15,12 +15,16 @@ use Rattle.rules.specs.StepB.{scsiseqB, sxfrctl0B, scsisigB, registersB, transf
 use Rattle.rules.specs.declared.registers.Scsiseq.{Scsiseq}
 use Rattle.rules.specs.declared.registers.Sxfrctl0.{Sxfrctl0}
 use Rattle.rules.specs.declared.registers.Scsisig.{Scsisig}
+use Rattle.rules.specs.declared.registers.Registers.{Registers}
 use Rattle.rules.specs.declared.chip.Status.{Status}
 use Rattle.rules.specs.declared.chip.Edges.{Edges}
-use Rattle.image.specs.Image.{imageOf, stateAt, headOf, scsisigByte, statusOf, statusByte, withRegisters, withTransfer, withStatus, withQuiet}
+use Rattle.image.specs.Image.{imageOf, stateAt, IsImage, headOf, scsisigByte, statusOf, statusByte, withRegisters, withTransfer, withStatus, withQuiet}
 use Rattle.image.proofs.EightBits.{is-one, bit-0, bit-1, bit-2, bit-3, bit-4, bit-5, bit-6, bit-7}
 use Rattle.laws.proofs.Lists.{padded-push, padded-length}
 use Rattle.edged.specs.Parts.{storedB, countedB}
+use Rattle.edged.specs.Room.{Room}
+use Rattle.edged.specs.Stored.{registersStored, byteStored, countStored, statusStored}
+use Rattle.edged.proofs.Laws.{registers-kept}
 
 -- a register unpacked from its byte
 seq-round : (q : Scsiseq) → scsiseqOf (scsiseqByte q) ≡ q
@@ -69,15 +73,14 @@ registers-set : (s : State) (reset bad free : Bool) {q : Scsiseq} {x : Sxfrctl0}
 unfolding imageOf registersB
 registers-set s reset bad free a b d = rw (a, b, d)
 
-abbrev registersStored : List ℕ → Bool → Bool → Bool → List ℕ
-registersStored m reset bad free =
-    set (set (set m 0 (scsiseqByte (scsiseqB reset (scsiseqOf (getD m 0 0))))) 1 (sxfrctl0Byte (sxfrctl0B reset (sxfrctl0Of (getD m 1 0))))) 3
-    (scsisigByte (scsisigB (reset || free) (bad && (scsiseqOf (getD m 0 0)) .enautoatnp) (scsisigOf false (getD m 3 0))))
-
-pub registers-placed : (m n : List ℕ) (reset bad free : Bool) (s : State) → m ≡ imageOf s → n ≡ registersStored m reset bad free → n ≡ imageOf (withRegisters (registersB reset bad free (s .registers)) s)
-registers-placed m n reset bad free s e f =
-    f ∙ ap (λ (l : List ℕ). registersStored l reset bad free) e
-    ∙ registers-set s reset bad free (seq-at s) (control-at s) (sig-at s)
+pub registers-placed : {m n : List ℕ} (reset bad free : Bool) (s : State) → m ≡ imageOf s → n ≡ cond (reset || bad || free) (registersStored reset bad free m) m → n ≡ imageOf (withRegisters (registersB reset bad free (s .registers)) s)
+registers-placed {m} {n} reset bad free s e f = by (reset || bad || free) refl f
+  where
+    by : (b : Bool) → (reset || bad || free) ≡ b → n ≡ cond b (registersStored reset bad free m) m → n ≡ imageOf (withRegisters (registersB reset bad free (s .registers)) s)
+    by true d h =
+        h ∙ ap (λ (l : List ℕ). registersStored reset bad free l) e
+        ∙ registers-set s reset bad free (seq-at s) (control-at s) (sig-at s)
+    by false d h = h ∙ e ∙ ap (λ (r : Registers). imageOf (withRegisters r s)) (registers-kept reset bad free (s .registers) d)
 
 -- a store past the front
 set-past : (x q : List ℕ) (i b : ℕ) → set (x ++ q) (length x + i) b ≡ x ++ set q i b
@@ -119,27 +122,30 @@ scsi-set s b h =
     ∙ ap (λ (j : ℕ). set (headOf s ++ padded 8 (l ++ (b ∷ [])) ++ s .stack .bytes ++ padded 128 (s .transfer .host)) 23 j) n
     ∙ scsi-image s b
 
-abbrev byteStored : List ℕ → ℕ → ℕ → List ℕ
-byteStored m held b = set (set m (28 + held) b) 23 (held + 1)
+abbrev storedBehind : ℕ → ℕ → List ℕ → List ℕ
+storedBehind held b m = set (set m (28 + held) b) 23 (held + 1)
 
-pub scsi-placed : (m n : List ℕ) (b : ℕ) (s : State) → getD m 23 0 < 8 → m ≡ imageOf s → n ≡ byteStored m (getD m 23 0) b → n ≡ imageOf (withTransfer (storedB true b (s .transfer)) s)
-scsi-placed m n b s h e f =
-    let k : getD m 23 0 ≡ length (s .transfer .scsi) = ap (λ (l : List ℕ). getD l 23 0) e ∙ held-at s in
+pub held-of : (m : List ℕ) (s : State) → m ≡ imageOf s → getD m 23 0 ≡ length (s .transfer .scsi)
+held-of m s e = ap (λ (l : List ℕ). getD l 23 0) e ∙ held-at s
+
+pub scsi-placed : {m n : List ℕ} (b : ℕ) (s : State) → getD m 23 0 < 8 → m ≡ imageOf s → n ≡ byteStored b m → n ≡ imageOf (withTransfer (storedB true b (s .transfer)) s)
+scsi-placed {m} b s h e f =
+    let k : getD m 23 0 ≡ length (s .transfer .scsi) = held-of m s e in
     let i : length (s .transfer .scsi) < 8 = rw k at h in
-    f ∙ ap (λ (j : ℕ). byteStored m j b) k ∙ ap (λ (l : List ℕ). byteStored l (length (s .transfer .scsi)) b) e ∙ scsi-set s b i
+    f ∙ ap (λ (j : ℕ). storedBehind j b m) k ∙ ap (λ (l : List ℕ). storedBehind (length (s .transfer .scsi)) b l) e ∙ scsi-set s b i
+
+stored-placed : {m n : List ℕ} (stored : Bool) (b : ℕ) (s : State) → (stored ≡ true → getD m 23 0 < 8) → m ≡ imageOf s → n ≡ cond stored (byteStored b m) m → n ≡ imageOf (withTransfer (storedB stored b (s .transfer)) s)
+stored-placed true b s h e f = scsi-placed b s (h refl) e f
+stored-placed false b s h e f = f ∙ e
 
 -- the offset and the automatic ACK in their places
 counted-set : (s : State) (zeroed counted released : Bool) {o : ℕ} {k : Bool} → o ≡ s .transfer .offset → k ≡ s .transfer .ack → set (set (imageOf s) 17 (cond zeroed 0 (cond counted (o + 1) o))) 18 (one (not released && k)) ≡ imageOf (withTransfer (countedB zeroed counted released (s .transfer)) s)
 unfolding imageOf
 counted-set s zeroed counted released a b = rw (a, b)
 
-abbrev countedStored : List ℕ → Bool → Bool → Bool → List ℕ
-countedStored m zeroed counted released =
-    set (set m 17 (cond zeroed 0 (cond counted (getD m 17 0 + 1) (getD m 17 0)))) 18 (one (not released && eqb (getD m 18 0) 1))
-
-pub counted-placed : (m n : List ℕ) (zeroed counted released : Bool) (s : State) → m ≡ imageOf s → n ≡ countedStored m zeroed counted released → n ≡ imageOf (withTransfer (countedB zeroed counted released (s .transfer)) s)
-counted-placed m n zeroed counted released s e f =
-    f ∙ ap (λ (l : List ℕ). countedStored l zeroed counted released) e
+pub counted-placed : {m n : List ℕ} (zeroed counted released : Bool) (s : State) → m ≡ imageOf s → n ≡ countStored zeroed counted released m → n ≡ imageOf (withTransfer (countedB zeroed counted released (s .transfer)) s)
+counted-placed zeroed counted released s e f =
+    f ∙ ap (λ (l : List ℕ). countStored zeroed counted released l) e
     ∙ counted-set s zeroed counted released (offset-at s) (ack-at s)
 
 pub offset-of : (m : List ℕ) (s : State) → m ≡ imageOf s → getD m 17 0 ≡ s .transfer .offset
@@ -148,8 +154,13 @@ offset-of m s e = ap (λ (l : List ℕ). getD l 17 0) e ∙ offset-at s
 pub room-after : {m : List ℕ} (stored : Bool) (b : ℕ) (s : State) → m ≡ imageOf (withTransfer (storedB stored b (s .transfer)) s) → s .transfer .offset < 8 → getD m 17 0 < 8
 room-after {m} stored b s e h = rw (offset-of m (withTransfer (storedB stored b (s .transfer)) s) e) h
 
-pub held-of : (m : List ℕ) (s : State) → m ≡ imageOf s → getD m 23 0 ≡ length (s .transfer .scsi)
-held-of m s e = ap (λ (l : List ℕ). getD l 23 0) e ∙ held-at s
+-- the SCSI FIFO's part of the data path: a byte that is stored has a place
+module _ {g : Edges} {m : List ℕ} (byte : ℕ) (i : IsImage m) (room : Room g ((stateAt m) .transfer)) where
+  pub place-of : g .stored ≡ true → getD m 23 0 < 8
+  place-of h = rw (held-of m (stateAt m) (i .packed)) (room .stored h)
+
+  pub path-stored : {n : List ℕ} → n ≡ cond (g .stored) (byteStored byte m) m → n ≡ imageOf (withTransfer (storedB (g .stored) byte ((stateAt m) .transfer)) (stateAt m))
+  path-stored = stored-placed (g .stored) byte (stateAt m) place-of (i .packed)
 
 -- both parts of the data path
 pub path-parts : (g : Edges) (byte : ℕ) (s : State) → imageOf (withTransfer (countedB (g .rstrises || g .free) (g .counted) (g .reqfalls || g .rstrises || g .free) (storedB (g .stored) byte (s .transfer))) s) ≡ imageOf (withTransfer (transferB g byte (s .transfer)) s)
@@ -161,10 +172,8 @@ status-set : (s : State) (part : Status → Status) {t : Status} → t ≡ s .st
 unfolding imageOf
 status-set s part a = rw a
 
-pub status-placed : (m : List ℕ) (part : Status → Status) (s : State) {v : ℕ} → m ≡ imageOf s → v ≡ statusByte (part (statusOf (getD m 12 0))) → set m 12 v ≡ imageOf (withStatus (part (s .status)) s)
-status-placed m part s e f =
-    ap (λ (x : ℕ). set m 12 x) f ∙ ap (λ (l : List ℕ). set l 12 (statusByte (part (statusOf (getD l 12 0))))) e
-    ∙ status-set s part (status-at s)
+pub status-placed : {m n : List ℕ} (part : Status → Status) (s : State) → m ≡ imageOf s → n ≡ statusStored part m → n ≡ imageOf (withStatus (part (s .status)) s)
+status-placed part s e f = f ∙ ap (λ (l : List ℕ). statusStored part l) e ∙ status-set s part (status-at s)
 
 pub quiet-placed : (m : List ℕ) (n : ℕ) (s : State) → m ≡ imageOf s → set m 20 n ≡ imageOf (withQuiet n s)
 unfolding imageOf

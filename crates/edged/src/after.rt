@@ -1,17 +1,16 @@
-// The components after B, changed in place. A contract over every state of which the array is the image holds at each turn of B.
+// The components after B, changed in place; what a part of them leaves is said of every array that it takes.
 ghost use mathlib.Core.Path.{_≡_};
 ghost use mathlib.Core.Bool.{true, false, not, _&&_, _||_, cond};
 ghost use Prim.Native.Nat.{_+_, _<_};
 ghost use lib.Dec.{eqb};
-ghost use lib.ListN.{getD, set};
+ghost use lib.ListN.{getD};
 ghost use Rattle.rules.specs.Numbers.{one};
 ghost use Rattle.rules.specs.Registers.{scsiseqOf, scsiseqByte, sxfrctl0Of, sxfrctl0Byte, scsisigOf};
 ghost use Rattle.rules.specs.Seen.{dataSeen};
-ghost use Rattle.rules.specs.State.{State};
-ghost use Rattle.rules.specs.StepB.{scsiseqB, sxfrctl0B, scsisigB, registersB, transferB, statusB};
-ghost use Rattle.image.specs.Image.{imageOf, stateAt, registersAt, linesAt, transferAt, IsImage, scsisigByte, statusOf, statusByte, withRegisters, withTransfer, withStatus};
-ghost use Rattle.edged.specs.Parts.{storedB};
+ghost use Rattle.rules.specs.StepB.{scsiseqB, sxfrctl0B, scsisigB, transferB, statusB};
+ghost use Rattle.image.specs.Image.{imageOf, stateAt, registersAt, linesAt, transferAt, IsImage, scsisigByte, statusOf, statusByte, withTransfer};
 ghost use Rattle.edged.specs.Room.{Room};
+ghost use Rattle.edged.specs.Stored.{registersStored, byteStored, countStored, statusStored};
 use image::bus::data_seen;
 use image::bytes::scsisig_byte;
 use image::bytes::status_byte;
@@ -93,7 +92,7 @@ fn scsisig_after(zeroed: bool, attention: bool, v: u8) -> u8
 }
 
 fn registers_stored(m: &mut [u8; 196], reset: bool, bad: bool, free: bool)
-    ensures { λ _. ⌜ now (m .exit) ≡ set (set (set (now (m .entry)) 0 (scsiseqByte (scsiseqB reset (scsiseqOf (getD (now (m .entry)) 0 0))))) 1 (sxfrctl0Byte (sxfrctl0B reset (sxfrctl0Of (getD (now (m .entry)) 1 0))))) 3 (scsisigByte (scsisigB (reset || free) (bad && (scsiseqOf (getD (now (m .entry)) 0 0)) .enautoatnp) (scsisigOf false (getD (now (m .entry)) 3 0)))) ⌝ }
+    ensures { λ _. ⌜ now (m .exit) ≡ registersStored reset bad free (now (m .entry)) ⌝ }
 {
     let attention = bad & ((m[0] >> 1) % 2 == 1);
     let q = scsiseq_after(reset, m[0]);
@@ -106,7 +105,7 @@ fn registers_stored(m: &mut [u8; 196], reset: bool, bad: bool, free: bool)
 
 // The registers after a bus reset, a parity error and bus free; nothing else changes them here.
 pub fn registers_in(m: &mut [u8; 196], reset: bool, bad: bool, free: bool)
-    ensures { λ _. ⌜ ((s : State) → now (m .entry) ≡ imageOf s → now (m .exit) ≡ imageOf (withRegisters (registersB reset bad free (s .registers)) s)) ⌝ }
+    ensures { λ _. ⌜ now (m .exit) ≡ cond (reset || bad || free) (registersStored reset bad free (now (m .entry))) (now (m .entry)) ⌝ }
 {
     if !(reset | bad | free) {
         return;
@@ -124,7 +123,7 @@ pub fn byte_seen(m: &[u8; 196], stored: bool) -> u8
 // The byte in the first free place of the SCSI FIFO.
 pub fn byte_stored(m: &mut [u8; 196], byte: u8)
     requires { ⌜ getD (now m) 23 0 < 8 ⌝ }
-    ensures { λ _. ⌜ now (m .exit) ≡ set (set (now (m .entry)) (28 + getD (now (m .entry)) 23 0) byte) 23 (getD (now (m .entry)) 23 0 + 1) ⌝ }
+    ensures { λ _. ⌜ now (m .exit) ≡ byteStored byte (now (m .entry)) ⌝ }
 {
     let held = m[23];
     let at = held as usize;
@@ -135,7 +134,7 @@ pub fn byte_stored(m: &mut [u8; 196], byte: u8)
 // "an inbound byte is stored"
 fn scsi_in(m: &mut [u8; 196], stored: bool, byte: u8)
     requires { ⌜ (stored ≡ true → getD (now m) 23 0 < 8) ⌝ }
-    ensures { λ _. ⌜ ((s : State) → now (m .entry) ≡ imageOf s → now (m .exit) ≡ imageOf (withTransfer (storedB stored byte (s .transfer)) s)) ⌝ }
+    ensures { λ _. ⌜ now (m .exit) ≡ cond stored (byteStored byte (now (m .entry))) (now (m .entry)) ⌝ }
 {
     if stored {
         byte_stored(m, byte);
@@ -161,7 +160,7 @@ fn ack_b(released: bool, ack: u8) -> u8
 // "offset goes up one"; "automatic ACK is released"
 fn counted_in(m: &mut [u8; 196], zeroed: bool, counted: bool, released: bool)
     requires { ⌜ (counted ≡ true → getD (now m) 17 0 < 8) ⌝ }
-    ensures { λ _. ⌜ now (m .exit) ≡ set (set (now (m .entry)) 17 (cond zeroed 0 (cond counted (getD (now (m .entry)) 17 0 + 1) (getD (now (m .entry)) 17 0)))) 18 (one (not released && eqb (getD (now (m .entry)) 18 0) 1)) ⌝ }
+    ensures { λ _. ⌜ now (m .exit) ≡ countStored zeroed counted released (now (m .entry)) ⌝ }
 {
     let offset = offset_b(zeroed, counted, m[17]);
     let ack = ack_b(released, m[18]);
@@ -208,7 +207,7 @@ fn status_after(g: Edges, changed: bool, v: u8) -> u8
 
 // The status after B, where the phase changed or not.
 pub fn status_in(m: &mut [u8; 196], g: Edges, changed: bool)
-    ensures { λ _. ⌜ ((s : State) → now (m .entry) ≡ imageOf s → now (m .exit) ≡ imageOf (withStatus (statusB g changed (s .status)) s)) ⌝ }
+    ensures { λ _. ⌜ now (m .exit) ≡ statusStored (statusB g changed) (now (m .entry)) ⌝ }
 {
     let v = status_after(g, changed, m[12]);
     m[12] = v;

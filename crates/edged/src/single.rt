@@ -3,11 +3,11 @@ ghost use mathlib.Core.Path.{_≡_};
 ghost use mathlib.Core.Bool.{true, false, _&&_};
 ghost use Prim.Native.Nat.{_<_};
 ghost use lib.ListN.{getD};
-ghost use Rattle.rules.specs.State.{State};
 ghost use Rattle.rules.specs.StepB.{beyondLimit};
-ghost use Rattle.image.specs.Image.{imageOf, stateAt, linesAt, withStatus};
+ghost use Rattle.image.specs.Image.{imageOf, stateAt, linesAt};
 ghost use Rattle.edged.specs.From.{synchronousReqFrom};
 ghost use Rattle.edged.specs.Frequent.{raisedB, phaseB, inboundB, callB, risenB, reqB};
+ghost use Rattle.edged.specs.Stored.{statusStored};
 use crate::after::byte_stored;
 use crate::found::beyond_limit;
 use crate::found::synchronous_req;
@@ -18,7 +18,7 @@ use image::bytes::status_of;
 
 // PHASECHG, REQINIT and SYNCERR set, the rest of the status as it was.
 fn raised_in(m: &mut [u8; 196], phase: bool, req: bool, late: bool)
-    ensures { λ _. ⌜ ((s : State) → now (m .entry) ≡ imageOf s → now (m .exit) ≡ imageOf (withStatus (raisedB phase req late (s .status)) s)) ⌝ }
+    ensures { λ _. ⌜ now (m .exit) ≡ statusStored (raisedB phase req late) (now (m .entry)) ⌝ }
 {
     let mut t = status_of(m[12]);
     t.phasechg = phase | t.phasechg;
@@ -30,7 +30,8 @@ fn raised_in(m: &mut [u8; 196], phase: bool, req: bool, late: bool)
 
 // "PHASECHG is set when "connected and not matched" is true here and was false"
 pub fn phase_in(m: &mut [u8; 196], was: bool)
-    ensures { λ _. ⌜ ((s : State) → now (m .entry) ≡ imageOf s → now (m .exit) ≡ imageOf (phaseB was s)) ⌝ }
+    requires { ⌜ now m ≡ imageOf (stateAt (now m)) ⌝ }
+    ensures { λ _. ⌜ now (m .exit) ≡ imageOf (phaseB was (stateAt (now (m .entry)))) ⌝ }
 {
     if was {
         return;
@@ -42,8 +43,9 @@ pub fn phase_in(m: &mut [u8; 196], was: bool)
 
 // An inbound byte, SYNCERR where it is late: while IO is seen the chip drives no data, so it is the byte of others.
 fn inbound_in(m: &mut [u8; 196])
+    requires { ⌜ now m ≡ imageOf (stateAt (now m)) ⌝ }
     requires { ⌜ ((linesAt (now m)) .io ≡ true → getD (now m) 23 0 < 8) ⌝ }
-    ensures { λ _. ⌜ ((s : State) → now (m .entry) ≡ imageOf s → now (m .exit) ≡ imageOf (inboundB true s)) ⌝ }
+    ensures { λ _. ⌜ now (m .exit) ≡ imageOf (inboundB true (stateAt (now (m .entry)))) ⌝ }
 {
     if !((m[16] >> 6) % 2 == 1) {
         return;

@@ -11,7 +11,7 @@ use Rattle.rules.specs.Numbers.{padded}
 use Rattle.rules.specs.Counter.{counterSize, counted, counterByte, counterWith}
 use Rattle.rules.specs.State.{State}
 use Rattle.image.specs.Image.{imageOf, headOf}
-use Rattle.ports.specs.Ready.{Placed, withScsi, withCounter, withOffset, withAck}
+use Rattle.ports.specs.Ready.{Placed, withScsi, withCounter, counterWritten, counterCounted, withOffset, withAck}
 use Rattle.ports.proofs.Fronts.{paste-at}
 
 -- the three bytes of a number stand for it
@@ -63,19 +63,19 @@ bytes-as s n {a} {b} {c} e f g =
     ∙ stored s n
 
 module _ (s : State) (v : ℕ) (h : v < 256) where
-  low-stored : set (imageOf s) 25 v ≡ imageOf (withCounter (counterWith 0 v (s .transfer .counter)) s)
+  low-stored : set (imageOf s) 25 v ≡ imageOf (counterWritten 0 v s)
   unfolding imageOf
   low-stored =
       let n : ℕ = s .transfer .counter in
       bytes-as s (counterWith 0 v n) (sym (low-0 v n h)) (sym (low-1 v n h)) (sym (low-2 v n h))
 
-  middle-stored : set (imageOf s) 26 v ≡ imageOf (withCounter (counterWith 1 v (s .transfer .counter)) s)
+  middle-stored : set (imageOf s) 26 v ≡ imageOf (counterWritten 1 v s)
   unfolding imageOf
   middle-stored =
       let n : ℕ = s .transfer .counter in
       bytes-as s (counterWith 1 v n) (sym (middle-0 v n h)) (sym (middle-1 v n h)) (sym (middle-2 v n h))
 
-  high-stored : set (imageOf s) 27 v ≡ imageOf (withCounter (counterWith 2 v (s .transfer .counter)) s)
+  high-stored : set (imageOf s) 27 v ≡ imageOf (counterWritten 2 v s)
   unfolding imageOf
   high-stored =
       let n : ℕ = s .transfer .counter in
@@ -134,13 +134,13 @@ module _ {m : List ℕ} (s : State) (e : m ≡ imageOf s) where
   pub zeroed : set (set (set m 25 0) 26 0) 27 0 ≡ imageOf (withCounter 0 s)
   zeroed = ap (λ (y : List ℕ). set (set (set y 25 0) 26 0) 27 0) e ∙ stored s 0
 
-  pub low : (v : ℕ) → v < 256 → set m 25 v ≡ imageOf (withCounter (counterWith 0 v (s .transfer .counter)) s)
+  pub low : (v : ℕ) → v < 256 → set m 25 v ≡ imageOf (counterWritten 0 v s)
   low v h = ap (λ (y : List ℕ). set y 25 v) e ∙ low-stored s v h
 
-  pub middle : (v : ℕ) → v < 256 → set m 26 v ≡ imageOf (withCounter (counterWith 1 v (s .transfer .counter)) s)
+  pub middle : (v : ℕ) → v < 256 → set m 26 v ≡ imageOf (counterWritten 1 v s)
   middle v h = ap (λ (y : List ℕ). set y 26 v) e ∙ middle-stored s v h
 
-  pub high : (v : ℕ) → v < 256 → set m 27 v ≡ imageOf (withCounter (counterWith 2 v (s .transfer .counter)) s)
+  pub high : (v : ℕ) → v < 256 → set m 27 v ≡ imageOf (counterWritten 2 v s)
   high v h = ap (λ (y : List ℕ). set y 27 v) e ∙ high-stored s v h
 
   pub on : set m 18 1 ≡ imageOf (withAck true s)
@@ -153,7 +153,7 @@ module _ {m : List ℕ} (s : State) (e : m ≡ imageOf s) where
     pub number : getD m 25 0 + 256 * getD m 26 0 + 65536 * getD m 27 0 ≡ s .transfer .counter
     number = ap (λ (y : List ℕ). getD y 25 0 + 256 * getD y 26 0 + 65536 * getD y 27 0) e ∙ counter-bytes s ∙ bytes-joined (s .transfer .counter) (p .counter)
 
-    pub more : {k n a b c : ℕ} → k ≡ getD m 25 0 + 256 * getD m 26 0 + 65536 * getD m 27 0 → n ≡ counted k → a ≡ counterByte 0 n → b ≡ counterByte 1 n → c ≡ counterByte 2 n → set (set (set m 25 a) 26 b) 27 c ≡ imageOf (withCounter (counted (s .transfer .counter)) s)
+    pub more : {k n a b c : ℕ} → k ≡ getD m 25 0 + 256 * getD m 26 0 + 65536 * getD m 27 0 → n ≡ counted k → a ≡ counterByte 0 n → b ≡ counterByte 1 n → c ≡ counterByte 2 n → set (set (set m 25 a) 26 b) 27 c ≡ imageOf (counterCounted s)
     more {k} {n} {a} {b} {c} f g i j l =
         let q : n ≡ counted (s .transfer .counter) = g ∙ ap counted (f ∙ number) in
         ap (λ (y : List ℕ). set (set (set y 25 a) 26 b) 27 c) e ∙ bytes-as s n i j l ∙ ap (λ (x : ℕ). imageOf (withCounter x s)) q

@@ -5,7 +5,7 @@ use mathlib.Core.Bool.{Bool}
 use mathlib.Core.List.{List}
 use lib.ListN.{length}
 use Rattle.rules.specs.State.{State}
-use Rattle.rules.specs.Counter.{counterSize}
+use Rattle.rules.specs.Counter.{counterSize, counted, counterWith}
 use Rattle.image.specs.Image.{withTransfer}
 
 -- the FIFOs, the stack and the counter fit their places
@@ -53,6 +53,13 @@ withCounter n s =
       last = s .transfer .last;
     })
     s
+
+-- byte k of the counter written; one added to it
+abbrev pub counterWritten : ℕ → ℕ → State → State
+counterWritten k v s = withCounter (counterWith k v (s .transfer .counter)) s
+
+abbrev pub counterCounted : State → State
+counterCounted s = withCounter (counted (s .transfer .counter)) s
 
 abbrev pub withOffset : ℕ → State → State
 withOffset n s =

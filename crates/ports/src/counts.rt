@@ -2,9 +2,8 @@
 ghost use mathlib.Core.Path.{_≡_};
 ghost use mathlib.Core.Bool.{true};
 ghost use Prim.Native.Nat.{_+_, _*_};
-ghost use Rattle.rules.specs.Counter.{counted, counterWith};
 ghost use Rattle.image.specs.Image.{imageOf, stateAt, IsImage};
-ghost use Rattle.ports.specs.Ready.{withCounter, withAck};
+ghost use Rattle.ports.specs.Ready.{withCounter, counterWritten, counterCounted, withAck};
 
 // "CLRSTCNT zeroes the counter"
 pub fn counter_zeroed(m: &mut [u8; 196])
@@ -19,21 +18,21 @@ pub fn counter_zeroed(m: &mut [u8; 196])
 // "The counter writes as 24 bits, 348h lowest"
 pub fn low_written(m: &mut [u8; 196], value: u8)
     requires { ⌜ IsImage (now m) ⌝ }
-    ensures { λ _. ⌜ now (m .exit) ≡ imageOf (withCounter (counterWith 0 value ((stateAt (now (m .entry))) .transfer .counter)) (stateAt (now (m .entry)))) ⌝ }
+    ensures { λ _. ⌜ now (m .exit) ≡ imageOf (counterWritten 0 value (stateAt (now (m .entry)))) ⌝ }
 {
     m[25] = value;
 }
 
 pub fn middle_written(m: &mut [u8; 196], value: u8)
     requires { ⌜ IsImage (now m) ⌝ }
-    ensures { λ _. ⌜ now (m .exit) ≡ imageOf (withCounter (counterWith 1 value ((stateAt (now (m .entry))) .transfer .counter)) (stateAt (now (m .entry)))) ⌝ }
+    ensures { λ _. ⌜ now (m .exit) ≡ imageOf (counterWritten 1 value (stateAt (now (m .entry)))) ⌝ }
 {
     m[26] = value;
 }
 
 pub fn high_written(m: &mut [u8; 196], value: u8)
     requires { ⌜ IsImage (now m) ⌝ }
-    ensures { λ _. ⌜ now (m .exit) ≡ imageOf (withCounter (counterWith 2 value ((stateAt (now (m .entry))) .transfer .counter)) (stateAt (now (m .entry)))) ⌝ }
+    ensures { λ _. ⌜ now (m .exit) ≡ imageOf (counterWritten 2 value (stateAt (now (m .entry)))) ⌝ }
 {
     m[27] = value;
 }
@@ -47,7 +46,7 @@ fn joined(low: u8, middle: u8, high: u8) -> u32
 // "adds one to the counter", modulo 16,777,216
 fn one_more(m: &mut [u8; 196])
     requires { ⌜ IsImage (now m) ⌝ }
-    ensures { λ _. ⌜ now (m .exit) ≡ imageOf (withCounter (counted ((stateAt (now (m .entry))) .transfer .counter)) (stateAt (now (m .entry)))) ⌝ }
+    ensures { λ _. ⌜ now (m .exit) ≡ imageOf (counterCounted (stateAt (now (m .entry)))) ⌝ }
 {
     let n = counter::counted(joined(m[25], m[26], m[27]));
     let low = counter::counter_byte(0, n);
@@ -61,7 +60,7 @@ fn one_more(m: &mut [u8; 196])
 // "turns automatic ACK on, adds one to the counter"
 pub fn acknowledged(m: &mut [u8; 196])
     requires { ⌜ IsImage (now m) ⌝ }
-    ensures { λ _. ⌜ now (m .exit) ≡ imageOf (withAck true (withCounter (counted ((stateAt (now (m .entry))) .transfer .counter)) (stateAt (now (m .entry))))) ⌝ }
+    ensures { λ _. ⌜ now (m .exit) ≡ imageOf (withAck true (counterCounted (stateAt (now (m .entry))))) ⌝ }
 {
     one_more(m);
     m[18] = 1;

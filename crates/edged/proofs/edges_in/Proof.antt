@@ -1,7 +1,13 @@
 use borrow.Author.Needs.{needs}
-use Rattle.edged.proofs.InTurn.{no-reset, quiet-is, no-error, not-free, phased-packed, beyond-is, all-parts}
+use Rattle.edged.proofs.InTurn.{no-reset, quiet-is, no-error, not-free, quieted, phased-packed, beyond-is, all-parts}
 use Rattle.edged.proofs.edges_in.Statement.{statement}
 use Rattle.edged.proofs.edges_in.Tie as tie
+
+phase-in-requires : tie.Need-phase-in-requires
+phase-in-requires c κs =
+    let quiet = c .before .before .before .before .before .before in
+    let start = quiet .before .before .before .before .before in
+    quieted (start .args .m .now) (start .pre .packed) (quiet .quiet-after .result)
 
 req-in-requires : tie.Need-req-in-requires
 req-in-requires c κs =
@@ -31,4 +37,4 @@ returns-4 c =
     )
 
 pub edges-in-spec : {M : Type 1} → statement M
-edges-in-spec = tie.close (tie.spec (λ c κs. search needs) (λ c κs. search needs) (λ c. search needs) (λ c κs. search needs) (λ c. search needs) (λ c κs. search needs) (λ c. search needs) (λ c κs. search needs) (λ c κs. search needs) (λ c. search needs) (λ c. search needs) (λ c κs. search needs) req-in-requires returns-4)
+edges-in-spec = tie.close (tie.spec (λ c κs. search needs) (λ c κs. search needs) (λ c. search needs) (λ c κs. search needs) (λ c. search needs) (λ c κs. search needs) (λ c. search needs) (λ c κs. search needs) (λ c κs. search needs) (λ c. search needs) (λ c. search needs) phase-in-requires req-in-requires returns-4)

@@ -7,9 +7,9 @@ use Rattle.rules.specs.Seen.{rstSeen}
 use Rattle.rules.specs.StepB.{beyondLimit}
 use Rattle.image.specs.Image.{imageOf, stateAt}
 use Rattle.edged.specs.From.{reqRisesFrom}
-use Rattle.edged.specs.Frequent.{callB, risenB, initB}
+use Rattle.edged.specs.Frequent.{raisedB, callB, risenB, initB}
 use Rattle.edged.proofs.Laws.{same-falls, same-rises, other-than}
-use Rattle.edged.proofs.Placed.{ack-placed, status-again, packed-as}
+use Rattle.edged.proofs.Placed.{ack-placed, status-placed, status-again, packed-as}
 use Rattle.edged.proofs.Frequent.{req-kept, req-fallen, req-risen, none-beyond, risen-beyond}
 use Rattle.edged.proofs.single.req_in.Statement.{statement}
 use Rattle.edged.proofs.single.req_in.Tie as tie
@@ -53,7 +53,7 @@ risen-requires c κs =
     let raised = c .before in
     let start = raised .before .before .before .before .before .before .before .before in
     let s = stateAt (start .args .m .now) in
-    let e = raised .raised-in .ensures s (start .pre) in
+    let e = status-placed (raisedB false true false) s (start .pre) (raised .raised-in .ensures) in
     packed-as (initB true s) e (status-again (start .pre) e)
 
 returns-4 : tie.Need-returns-4
@@ -69,7 +69,7 @@ returns-4 c =
     let off : w ≡ false = other-than (s .lines .req) w (tested .before .if1 .left) ∙ ap not on in
     let none : rstSeen (s .registers) (s .lines) ≡ false = sym (reset .before .rst-seen .ensures) ∙ reset .if3 .left in
     let rises : reqRisesFrom w s ≡ true = rw (none, on, off) in
-    let again = status-again (start .pre) (raised .raised-in .ensures s (start .pre)) in (
+    let again = status-again (start .pre) (status-placed (raisedB false true false) s (start .pre) (raised .raised-in .ensures)) in (
       c .risen .ensures .0 ∙ ap (λ (x : State). callB x && beyondLimit x) again ∙ risen-beyond w s rises,
       c .risen .ensures .1 ∙ ap (λ (x : State). imageOf (risenB (callB x) x)) again ∙ ap imageOf (req-risen w s rises (rw off)),
     )

@@ -37,7 +37,7 @@ inbound-in-requires : tie.Need-inbound-in-requires
 inbound-in-requires c κs =
     let tested = c .before .before in
     let start = tested .before .before .before .before .before .before in
-    place-left (start .args .m .now) (tested .before .beyond-limit .ensures) (tested .if2 .left)
+    (start .pre, place-left (start .args .m .now) (tested .before .beyond-limit .ensures) (tested .if2 .left))
 
 add-m : tie.Need-add-m
 add-m c =
@@ -57,7 +57,7 @@ returns-3 c =
     let on : callB s ≡ true = sym (called .before .synchronous-req .ensures) ∙ not-false _ (called .if1 .left) in
     let below : beyondLimit s ≡ false = sym (beyond-at m (start .pre) (asked .beyond-limit .ensures)) ∙ tested .if2 .left in (
       rw (below, and-false),
-      offset-placed _ (inboundB true s) refl (c .inbound-in .ensures s (start .pre)) ∙ ap imageOf (counted (callB s) s (rw (on, below))),
+      offset-placed _ (inboundB true s) refl (c .inbound-in .ensures) ∙ ap imageOf (counted (callB s) s (rw (on, below))),
     )
 
 pub risen-spec : {M : Type 1} → statement M
