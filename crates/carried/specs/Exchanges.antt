@@ -11,6 +11,7 @@ use Rattle.rules.specs.declared.map.Register.{Register}
 use Rattle.rules.specs.declared.map.Register.the-variants.{STCNT0, STCNT1, STCNT2}
 use Rattle.rules.specs.declared.records.Event.{Event}
 use Rattle.runs.specs.Comes.{says, eventBytes}
+use Rattle.runs.specs.Run.{lowBytes}
 
 pub record Exchange : Type 0 where
   pub bytes : List ℕ
@@ -50,10 +51,6 @@ offeredOf x = eventBytes offered (decode (handed x))
 
 abbrev pub acceptedOf : Exchange → List ℕ
 acceptedOf x = cond (isRefused x) [] (offeredOf x)
-
--- "A word's low byte comes first.": so many bytes of a value
-abbrev pub lowBytes : ℕ → ℕ → List ℕ
-lowBytes n value = take n (value % 256 ∷ value / 256 % 256 ∷ [])
 
 -- the bytes that a port read handed to the host
 abbrev pub readOf : Exchange → List ℕ

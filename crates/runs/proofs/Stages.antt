@@ -133,7 +133,7 @@ module _ (r : Registers) where
   no-port-write (Drive lines) w h = refl
   no-port-write (Ticks n) w h = refl
 
-asks-none : (e : Event) → portRead e ≡ false → asked e ≡ 0
+pub asks-none : (e : Event) → portRead e ≡ false → asked e ≡ 0
 unfolding portRead asked
 asks-none PowerReset h = refl
 asks-none (Write offset value) h = refl
