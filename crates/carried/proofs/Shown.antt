@@ -22,9 +22,10 @@ use Rattle.rules.proofs.Logic.{never}
 use Rattle.rules.proofs.Packing.{padded-take}
 use Rattle.rules.proofs.Ranges.{one-fits, step-fits, step-bytes}
 use Rattle.runs.specs.Comes.{says, eventBytes, unlessRefused, mayCome as recordMayCome}
-use Rattle.runs.specs.Run.{accepted, sentBy}
+use Rattle.runs.specs.Run.{accepted, sentBy, hostRead, lowBytes}
 use Rattle.runs.specs.Cut.{readAnswer}
-use Rattle.carried.specs.Exchanges.{Exchange, isAnswered, handed, codeOf, isRefused, acksOf, takenOf, valueOf, offeredOf, acceptedOf, mayCome, registerRead}
+use Rattle.runs.proofs.ReadRun.{read-hands}
+use Rattle.carried.specs.Exchanges.{Exchange, isAnswered, handed, codeOf, isRefused, acksOf, takenOf, valueOf, offeredOf, acceptedOf, readOf, mayCome, registerRead}
 use Rattle.carried.specs.Calls.{Ranged}
 
 -- the first byte holds the code above IRQ and the ACKs
@@ -80,6 +81,16 @@ done-number NoRoom = refl
 done-number NoBytes = refl
 done-number BeyondLimit = refl
 done-number TestValue = refl
+
+done-unrefused : (code : Code) → isDone code ≡ true → isRefusal code ≡ false
+done-unrefused Done h = refl
+done-unrefused Malformed h = absurd (never h)
+done-unrefused Absent h = absurd (never h)
+done-unrefused Shut h = absurd (never h)
+done-unrefused NoRoom h = absurd (never h)
+done-unrefused NoBytes h = absurd (never h)
+done-unrefused BeyondLimit h = refl
+done-unrefused TestValue h = absurd (never h)
 
 pub done-by-number : (code : Code) → numberOf code ≡ 0 → code ≡ Done
 done-by-number Done h = refl
@@ -137,17 +148,25 @@ module _ (s : State) (x : Exchange) (i : Ranged s) (h : isAnswered x ≡ true �
   come-shown allows = rw refused-shown
 
   -- a value is shown where the call was answered
-  value-shown : isDone ((step s (handed x)) .code) ≡ true → valueOf x ≡ (step s (handed x)) .value
+  value-shown : isRefusal ((step s (handed x)) .code) ≡ false → valueOf x ≡ (step s (handed x)) .value
   unfolding refused
   value-shown =
-      by-answer (λ t. isDone ((step s (cond t (x .bytes) [])) .code) ≡ true → valueOf x ≡ (step s (cond t (x .bytes) [])) .value)
+      by-answer (λ t. isRefusal ((step s (cond t (x .bytes) [])) .code) ≡ false → valueOf x ≡ (step s (cond t (x .bytes) [])) .value)
       (λ e q. rw (h e) (answer-value s (x .bytes) (step-bytes s (x .bytes) (i .range) (i .bytes) .value)))
-      (λ e q. absurd (never (rw (empty-refused s) at q)))
+      (λ e q. absurd (never (sym (rw (empty-refused s) at q))))
 
   pub register-shown : (r : Register) → registerRead r x ≡ readAnswer r s (handed x)
   unfolding readAnswer
   register-shown r = rw done-shown (go (isDone ((step s (handed x)) .code)) refl)
     where
       go : (t : Bool) → isDone ((step s (handed x)) .code) ≡ t → cond (t && says (λ e. reads e r) (decode (handed x))) (valueOf x ∷ []) [] ≡ cond (t && says (λ e. reads e r) (decode (handed x))) ((step s (handed x)) .value ∷ []) []
-      go true e = rw (value-shown e)
+      go true e = rw (value-shown (done-unrefused ((step s (handed x)) .code) e))
       go false e = refl
+
+  -- and what a port read handed to the host is what left the host FIFO
+  pub read-shown : readOf x ≡ hostRead s (handed x)
+  read-shown = rw refused-shown (go (isRefusal ((step s (handed x)) .code)) refl)
+    where
+      go : (t : Bool) → isRefusal ((step s (handed x)) .code) ≡ t → cond t [] (eventBytes (λ e. lowBytes (asked e) (valueOf x)) (decode (handed x))) ≡ cond t [] (eventBytes (λ e. take (asked e) (s .transfer .host)) (decode (handed x)))
+      go true e = refl
+      go false e = rw (value-shown e) (read-hands s (i .bytes .transfer .host) (handed x) e)
