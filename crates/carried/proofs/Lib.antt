@@ -1,2 +1,4 @@
 pub mod Shown
 pub mod Traces
+pub mod Steps
+pub mod DemandThree
