@@ -1,4 +1,6 @@
 pub mod Shown
 pub mod Traces
 pub mod Steps
+pub mod Rounds
+pub mod Restarts
 pub mod DemandThree
