@@ -4,3 +4,4 @@ pub mod Steps
 pub mod Rounds
 pub mod Restarts
 pub mod DemandThree
+pub mod Example

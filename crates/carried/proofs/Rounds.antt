@@ -131,13 +131,14 @@ rounds-match whole first s (r ∷ more) last i c t =
     ap (after s) (handed-append (wholeRound r) (allRounds more)) ∙ after-append s (handedOver (wholeRound r)) (handedOver (allRounds more)) in
     let rest = m .chain in
     record {
-      chain =
-          (record {
-            proceeds = p;
-            offers = offers-along (drop first whole) s (r .run) i (trace-append s (r .run) (r .cut ∷ r .reading) one .0) (c .1 .0 .offers);
-            bound = rw q at (c .1 .0 .bound);
-          },
-          rw (n, a) at rest);
+      chain = (
+        record {
+          proceeds = p;
+          offers = offers-along (drop first whole) s (r .run) i (trace-append s (r .run) (r .cut ∷ r .reading) one .0) (c .1 .0 .offers);
+          bound = rw q at (c .1 .0 .bound);
+        },
+        rw (n, a) at rest,
+      );
       taken = ap₂ (λ (x y : List ℕ). x ++ y) q (m .taken ∙ ap (λ (x : State). records.taken x (allRecordsIn more)) a);
       reached = m .reached ∙ rw (n, a);
       state = j ∙ m .state ∙ ap (λ (x : State). records.afterRounds x (allRecordsIn more)) a;

@@ -81,6 +81,29 @@ chips-are-states c (k ∷ more) i h =
     chips-are-states (k .returned .chip) more (chip-ranged c k i (h .0)) (h .1)
     ∙ ap (λ (s : State). after s (handedOver (exchangesOf more))) (call-steps c k i (h .0) .state)
 
+-- and every trace is what some calls leave: each is lent a buffer of the size that it shows
+abbrev callFor : Chip → Exchange → Call
+callFor c x =
+    record { bytes = x .bytes; before = x .buffer; buffer = x .buffer; returned = returnedOf (called (view c) (x .bytes) (x .buffer)) }
+
+call-made : (c : Chip) (x : Exchange) → (isAnswered x ≡ true → x .buffer ≡ answer (view c) (x .bytes)) → IsStep c (x .bytes) (x .buffer) (x .buffer) (callFor c x .returned)
+unfolding called
+call-made c x h = record { returns = refl; answer = go (isAnswered x) refl }
+  where
+    go : (t : Bool) → isAnswered x ≡ t → x .buffer ≡ (cond {A = Called} t (record { state = (step (view c) (x .bytes)) .state; code = (step (view c) (x .bytes)) .code; buffer = answer (view c) (x .bytes) }) (record { state = view c; code = Malformed; buffer = x .buffer })) .buffer
+    go true e = h e
+    go false e = refl
+
+pub trace-calls : (c : Chip) (xs : List Exchange) → Ranged (view c) → Trace (view c) xs → (ks : List Call) × (Calls c ks × (exchangesOf ks ≡ xs))
+trace-calls c [] i t = ([], (tt, refl))
+trace-calls c (x ∷ more) i t =
+    let k = callFor c x in
+    let made = call-made c x (t .0) in
+    let one = call-steps c k i made in
+    let rest : Trace (view (k .returned .chip)) more = rw (one .state) (t .1) in
+    let later = trace-calls (k .returned .chip) more (chip-ranged c k i made) rest in
+    (k ∷ later .0, ((made, later .1 .0), ap (λ (l : List Exchange). x ∷ l) (later .1 .1)))
+
 -- A RUN OF RECORDS IS A TRACE: sixteen bytes of the answers belong to four of the records
 pub run-trace : (s : State) (n : ℕ) (records rest : List ℕ) → Ranged s → Trace s (exchangesIn n records (joined (answers s (recordsOf n records)) ++ rest))
 run-trace s zero records rest i = tt
