@@ -1,2 +1,7 @@
+pub mod Shown
+pub mod Traces
 pub mod Steps
+pub mod Rounds
+pub mod Restarts
 pub mod DemandThree
+pub mod Example

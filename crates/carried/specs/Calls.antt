@@ -1,33 +1,53 @@
--- Calls of the public step, one after the other.
+-- Calls of the public functions, and the exchanges that they are to a driver.
+use Prim.Native.Nat.{ℕ, zero, suc, _+_, _*_}
 use mathlib.Core.Path.{_≡_}
+use mathlib.Core.Bool.{true}
 use mathlib.Core.List.{List, [], _∷_}
-use Prim.Native.Nat.{ℕ}
-use lib.ListN.{length}
+use lib.ListN.{length, take, drop}
+use Rattle.rules.specs.State.{State}
+use Rattle.rules.specs.Chips.{view}
+use Rattle.rules.specs.Ranges.{InRange, InBytes}
+use Rattle.rules.specs.Step.{step, answer}
 use Rattle.rules.specs.declared.chip.Chip.{Chip}
 use Rattle.step.specs.declared.Returned.{Returned}
 use Rattle.step.specs.Outcomes.{IsStep}
+use Rattle.carried.specs.Exchanges.{Exchange, isAnswered, handed}
 
--- a call: the record, the lent buffer before and after it, and what it returned
+-- what every chip value of the code is: its arrays have their lengths, and their elements are bytes
+pub record Ranged (s : State) : Type 0 where
+  pub range : InRange s
+  pub bytes : InBytes s
+
+-- exchanges that the definition's step gives from a state, one after the other
+abbrev pub Trace : State → List Exchange → Type 0
+Trace s [] = Unit {0}
+Trace s (x ∷ more) = (isAnswered x ≡ true → x .buffer ≡ answer s (x .bytes)) × Trace ((step s (handed x)) .state) more
+
+-- a call of step::step: the record, the lent buffer before and after it, and what it returned
 pub record Call : Type 0 where
   pub bytes : List ℕ
   pub before : List ℕ
   pub buffer : List ℕ
   pub returned : Returned
 
--- each call takes the chip that the one before returned, with a buffer of sixteen bytes
+-- each call takes the chip that the one before returned; any record, any buffer
 abbrev pub Calls : Chip → List Call → Type 0
 Calls c [] = Unit {0}
-Calls c (k ∷ more) =
-    (length (k .before) ≡ 16) × (IsStep c (k .bytes) (k .before) (k .buffer) (k .returned) × Calls (k .returned .chip) more)
+Calls c (k ∷ more) = IsStep c (k .bytes) (k .before) (k .buffer) (k .returned) × Calls (k .returned .chip) more
 
 abbrev pub lastChip : Chip → List Call → Chip
 lastChip c [] = c
 lastChip c (k ∷ more) = lastChip (k .returned .chip) more
 
-abbrev pub recordsOf : List Call → List (List ℕ)
-recordsOf [] = []
-recordsOf (k ∷ more) = k .bytes ∷ recordsOf more
+abbrev pub exchangeOf : Call → Exchange
+exchangeOf k = record { bytes = k .bytes; buffer = k .buffer }
 
-abbrev pub buffersOf : List Call → List (List ℕ)
-buffersOf [] = []
-buffersOf (k ∷ more) = k .buffer ∷ buffersOf more
+abbrev pub exchangesOf : List Call → List Exchange
+exchangesOf [] = []
+exchangesOf (k ∷ more) = exchangeOf k ∷ exchangesOf more
+
+-- of a run of n records in one slice and their answers in another: four bytes and sixteen at a time
+abbrev pub exchangesIn : ℕ → List ℕ → List ℕ → List Exchange
+exchangesIn zero records answers = []
+exchangesIn (suc n) records answers =
+    record { bytes = take 4 records; buffer = take 16 answers } ∷ exchangesIn n (drop 4 records) (drop 16 answers)

@@ -103,6 +103,25 @@ stack32 =
     ∷ row 0x53000000 0x00000050000000000000000000000000
     ∷ []
 
+-- the same through the byte alone, whichever place 353h shows: the second byte stands at place 0, or at place 16
+unfoldable pub byteAt0 : List Row
+byteAt0 =
+    row 0x3300000F 0x00000000000000000000000000000000
+    ∷ row 0x3D0000AA 0x00000000000000000000000000000000
+    ∷ row 0x3D0000BB 0x00000000000000000000000000000000
+    ∷ row 0x33000000 0x00000000000000000000000000000000
+    ∷ row 0x5D000000 0x000000BB000000000000000000000000
+    ∷ []
+
+unfoldable pub byteAt16 : List Row
+byteAt16 =
+    row 0x3300004F 0x00000000000000000000000000000000
+    ∷ row 0x3D0000AA 0x00000000000000000000000000000000
+    ∷ row 0x3D0000BB 0x00000000000000000000000000000000
+    ∷ row 0x33000050 0x00000000000000000000000000000000
+    ∷ row 0x5D000000 0x000000BB000000000000000000000000
+    ∷ []
+
 -- all cases marked P
 unfoldable pub marked : List (List Row)
-marked = printed ∷ wordAt126 ∷ wordAt127 ∷ ticks78 ∷ kind7 ∷ stack16 ∷ stack32 ∷ []
+marked = printed ∷ wordAt126 ∷ wordAt127 ∷ ticks78 ∷ kind7 ∷ stack16 ∷ stack32 ∷ byteAt0 ∷ byteAt16 ∷ []

@@ -1,7 +1,7 @@
 -- The clearing: no byte is sent from the cut to the next start, whatever the order, as long as the paper's condition holds.
 use mathlib.Core.Path.{_≡_, refl, sym, _∙_, ap}
 use mathlib.Core.Bool.{Bool, true, false, not, _&&_, _||_, cond, and-false}
-use mathlib.Core.List.{List, [], _∷_}
+use mathlib.Core.List.{List, [], _∷_, _++_}
 use Prim.Native.Nat.{ℕ}
 use native.Mathlib.Omega.{arith}
 use lib.Dec.{eqb}
@@ -9,7 +9,8 @@ use lib.ListN.{length}
 use lib.Seq.{drop-nil}
 use borrow.Author.Tests.{eqb-true, not-true}
 use Rattle.rules.specs.Numbers.{bit}
-use Rattle.rules.specs.Registers.{scsisigOf}
+use Rattle.rules.specs.Map.{offsetOf}
+use Rattle.rules.specs.Registers.{sxfrctl0Of, scsisigOf}
 use Rattle.rules.specs.State.{State, powerReset}
 use Rattle.rules.specs.Events.{writes, valueOf, offered, portWrite}
 use Rattle.rules.specs.Codes.{accessCode, isDone}
@@ -19,22 +20,23 @@ use Rattle.rules.specs.StepC.{Settling, conditions, started, turns, settledC}
 use Rattle.rules.specs.StepD.{finished, afterD}
 use Rattle.rules.specs.Answers.{Stepped}
 use Rattle.rules.specs.Step.{refused, done, step, after}
+use Rattle.rules.specs.declared.registers.Sxfrctl0.{Sxfrctl0}
 use Rattle.rules.specs.declared.registers.Scsisig.{Scsisig}
-use Rattle.rules.specs.declared.map.Register.the-variants.{SCSISIGO}
+use Rattle.rules.specs.declared.map.Register.the-variants.{SXFRCTL0, SCSISIGO}
 use Rattle.rules.specs.declared.codes.Code.{Code}
 use Rattle.rules.specs.declared.codes.Code.the-variants.{Done}
 use Rattle.rules.specs.declared.records.Event.{Event}
-use Rattle.rules.specs.declared.records.Event.the-variants.{PowerReset}
+use Rattle.rules.specs.declared.records.Event.the-variants.{PowerReset, Write, Read, WordWrite, WordRead, Drive, Ticks}
 use Rattle.rules.specs.declared.records.Decoded.{Decoded}
 use Rattle.rules.specs.declared.records.Decoded.the-variants.{Well}
 use Rattle.rules.proofs.Logic.{never, left-true, right-true}
-use Rattle.runs.specs.Comes.{isRefusal, says, mayCome, unlessRefused, along, acksAlong}
+use Rattle.runs.specs.Comes.{isRefusal, says, mayCome, allCome, unlessRefused, along, acksAlong}
 use Rattle.runs.specs.Run.{sentBy}
-use Rattle.runs.specs.Clearing.{switchedOff, bothEmpty, leavesAcko, allOff, mayClear, allClear}
-use Rattle.runs.proofs.Access.{done-code, step-law}
+use Rattle.runs.specs.Clearing.{switchedOff, bothEmpty, leavesAcko, staysOff, allOff, mayClear, allClear}
+use Rattle.runs.proofs.Access.{done-code, step-law, come-law}
 use Rattle.runs.proofs.Settles.{unsent-settles, settle-still, empty-no-move, empty-no-handshake}
-use Rattle.runs.proofs.Stages.{outbound-stores-none, no-automatic-ack}
-use Rattle.runs.proofs.Cut.{idle-event}
+use Rattle.runs.proofs.Stages.{stays-zero, spioen-A, outbound-stores-none, no-automatic-ack}
+use Rattle.runs.proofs.Cut.{off-B, both-true, idle-event}
 
 none-of-length : (l : List ℕ) → eqb (length l) 0 ≡ true → l ≡ []
 none-of-length [] h = refl
@@ -195,3 +197,47 @@ no-ack-until-empty s (bytes ∷ more) o a h =
     let x = step-silent s o a bytes (left-true (switchedOff ((step s bytes) .state)) (mayCome leavesAcko s bytes) h1) (right-true (switchedOff ((step s bytes) .state)) (mayCome leavesAcko s bytes) h1) in
     let y = no-ack-until-empty ((step s bytes) .state) more (x .off) (x .acko) (right-true front (allOff ((step s bytes) .state) more) h) in
     record { none = rw (x .none, y .none); off = y .off; acko = y .acko; ack = λ t. x .ack (y .ack t) }
+
+-- WHAT A DRIVER KNOWS FROM ITS RECORDS: where none sets SCSIEN or SPIOEN, both stay 0, and the paper's condition on the clearing holds
+sets-neither : (b x y : Bool) → not (b && (x || y)) ≡ true → ((b && x) ≡ false) × ((b && y) ≡ false)
+sets-neither false x y h = (refl, refl)
+sets-neither true false false h = (refl, refl)
+sets-neither true false true h = absurd (never h)
+sets-neither true true y h = absurd (never h)
+
+stays-bits : (e : Event) → staysOff e ≡ true → ((writes e SXFRCTL0 && bit (valueOf e) 7) ≡ false) × ((writes e SXFRCTL0 && bit (valueOf e) 3) ≡ false)
+unfolding writes valueOf
+stays-bits PowerReset h = absurd (never h)
+stays-bits (Write offset value) h = sets-neither (eqb offset (offsetOf SXFRCTL0)) (bit value 7) (bit value 3) h
+stays-bits (Read offset) h = (refl, refl)
+stays-bits (WordWrite word) h = (refl, refl)
+stays-bits WordRead h = (refl, refl)
+stays-bits (Drive lines) h = (refl, refl)
+stays-bits (Ticks n) h = (refl, refl)
+
+module _ (s : State) (o : switchedOff s ≡ true) where
+  bit-stays : (e : Event) (f : Sxfrctl0 → Bool) → (writes e SXFRCTL0 && f (sxfrctl0Of (valueOf e))) ≡ false → f (s .registers .sxfrctl0) ≡ false → f ((afterA s e) .registers .sxfrctl0) ≡ false
+  unfolding afterA registersA
+  bit-stays e f q z = stays-zero f (writes e SXFRCTL0) (sxfrctl0Of (valueOf e)) (s .registers .sxfrctl0) q z
+
+  off-done : (e : Event) → staysOff e ≡ true → isDone (accessCode s e) ≡ true → switchedOff ((done s e) .state) ≡ true
+  unfolding done afterD finished
+  off-done e h q =
+      off-by (afterD s e) (off-B s e (bit-stays e (λ x. x .scsien) (stays-bits e h .0) (off-scsien s o)))
+      (spioen-A s e ∙ bit-stays e (λ x. x .spioen) (stays-bits e h .1) (off-spioen s o))
+
+  off-refused : (d : Decoded) (code : Code) (value : ℕ) → isRefusal code ≡ true → switchedOff ((refused s code value) .state) ≡ true
+  unfolding refused
+  off-refused d code value q = o
+
+  pub step-stays-off : (bytes : List ℕ) → mayCome staysOff s bytes ≡ true → switchedOff ((step s bytes) .state) ≡ true
+  step-stays-off = come-law staysOff refl s (λ d r. switchedOff (r .state) ≡ true) off-refused off-done
+
+-- such records, and then others that keep the condition
+pub stays-clear : (s : State) (records later : List (List ℕ)) → switchedOff s ≡ true → allCome staysOff s records ≡ true → allClear (after s records) later ≡ true → allClear s (records ++ later) ≡ true
+unfolding mayClear
+stays-clear s [] later o h k = k
+stays-clear s (bytes ∷ more) later o h k =
+    let n = step-stays-off s o bytes (left-true (mayCome staysOff s bytes) (allCome staysOff ((step s bytes) .state) more) h) in
+    both-true (mayClear s bytes) (allClear ((step s bytes) .state) (more ++ later)) (rw n)
+    (stays-clear ((step s bytes) .state) more later n (right-true (mayCome staysOff s bytes) (allCome staysOff ((step s bytes) .state) more) h) k)

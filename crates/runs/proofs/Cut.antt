@@ -52,7 +52,7 @@ pub record Quiet (w : Bool) (s later : State) (sent : List ℕ) : Type 0 where
   pub none : sent ≡ []
 
 -- B leaves SCSIEN 0
-off-B : (s : State) (e : Event) → (afterA s e) .registers .sxfrctl0 .scsien ≡ false → (afterB s e) .registers .sxfrctl0 .scsien ≡ false
+pub off-B : (s : State) (e : Event) → (afterA s e) .registers .sxfrctl0 .scsien ≡ false → (afterB s e) .registers .sxfrctl0 .scsien ≡ false
 unfolding afterB applied registersB
 off-B s e h = rw h (and-false (not ((edgesOf s e) .rstrises)))
 
@@ -226,7 +226,7 @@ or-more : (a b c : Bool) → (b ≡ true → c ≡ true) → (a || b) ≡ true �
 or-more true b c f h = refl
 or-more false b c f h = f h
 
-both-true : (a b : Bool) → a ≡ true → b ≡ true → (a && b) ≡ true
+pub both-true : (a b : Bool) → a ≡ true → b ≡ true → (a && b) ≡ true
 both-true a b p q = rw (p, q)
 
 says-more : (p q : Event → Bool) → ((e : Event) → p e ≡ true → q e ≡ true) → (d : Decoded) → says p d ≡ true → says q d ≡ true

@@ -2,10 +2,10 @@
 use mathlib.Core.Path.{_≡_, refl, sym, _∙_, ap, ap₂}
 use mathlib.Core.Bool.{Bool, true, false, cond}
 use mathlib.Core.List.{List, [], _∷_, _++_, append-assoc, append-nil}
-use Prim.Native.Nat.{ℕ, _+_, _*_, _≤_}
+use Prim.Native.Nat.{ℕ, _+_, _*_, _/_, _%_, _≤_, _<_}
 use native.Mathlib.Omega.{arith}
 use lib.Dec.{eqb}
-use lib.ListN.{length, take, drop, getD, take-append-drop}
+use lib.ListN.{length, take, drop, getD, length-take, take-append-drop}
 use borrow.Author.Tests.{eqb-true, ltb-false}
 use Rattle.rules.specs.State.{State, powerReset}
 use Rattle.rules.specs.Records.{decode}
@@ -13,6 +13,7 @@ use Rattle.rules.specs.Map.{table, readAt}
 use Rattle.rules.specs.Reads.{readOf, readMapped, valueRead}
 use Rattle.rules.specs.Events.{asked, portRead}
 use Rattle.rules.specs.Codes.{noBytes, accessCode, isDone}
+use Rattle.rules.specs.Ranges.{Bytes}
 use Rattle.rules.specs.StepA.{transferA, afterA}
 use Rattle.rules.specs.StepB.{transferB, applied, edgesOf, afterB}
 use Rattle.rules.specs.StepC.{conditions, started, turns, settledC}
@@ -26,13 +27,14 @@ use Rattle.rules.specs.declared.records.Event.the-variants.{PowerReset, Write, 
 use Rattle.rules.specs.declared.records.Decoded.{Decoded}
 use Rattle.rules.specs.declared.records.Decoded.the-variants.{Well}
 use Rattle.rules.proofs.Logic.{never}
-use Rattle.runs.specs.Comes.{isRefusal, says, mayCome, allCome, unlessRefused, along}
-use Rattle.runs.specs.Run.{Starts, runAllows, hostRead, tookAtReq, tookByHandshakes, chipTook}
+use Rattle.rules.proofs.Ranges.{bytes-take}
+use Rattle.runs.specs.Comes.{isRefusal, says, mayCome, allCome, eventBytes, unlessRefused, along}
+use Rattle.runs.specs.Run.{Starts, runAllows, hostRead, lowBytes, tookAtReq, tookByHandshakes, chipTook}
 use Rattle.runs.proofs.Access.{Passed, passed, done-code, step-law, come-law}
 use Rattle.runs.proofs.Along.{along-law}
 use Rattle.runs.proofs.Settles.{storedBy, Inbound, inbound-settles}
 use Rattle.runs.proofs.Spared.{Spared, spared}
-use Rattle.runs.proofs.Stages.{Held, held-at-start, held-after, host-inbound}
+use Rattle.runs.proofs.Stages.{Held, held-at-start, held-after, asks-none, host-inbound}
 
 -- at a moment of a read run, after the chip took these bytes and the host read those
 pub record ReadMoment (s : State) (tookSoFar readSoFar : List ℕ) : Type 0 where
@@ -176,3 +178,64 @@ module _ (s : State) where
   -- what a port read that is not refused answers is what the host has read
   pub read-is-answered : (bytes : List ℕ) → says portRead (decode bytes) ≡ true → isRefusal ((step s bytes) .code) ≡ false → (step s bytes) .value ≡ littleEndian (hostRead s bytes)
   read-is-answered = step-law s Answers answers-refused answers-reset answers-done
+
+-- so the value's low bytes are what the host has read
+low-of : (x n : ℕ) → x < 256 → (x + 256 * n) % 256 ≡ x
+low-of x n h = omega arith
+
+high-of : (x n : ℕ) → x < 256 → (x + 256 * n) / 256 ≡ n
+high-of x n h = omega arith
+
+low-bytes : (l : List ℕ) → Bytes l → length l ≤ 2 → lowBytes (length l) (littleEndian l) ≡ l
+low-bytes [] b h = refl
+low-bytes (x ∷ []) b h = rw (low-of x 0 (b .0))
+low-bytes (x ∷ y ∷ []) b h = rw (low-of x (y + 256 * 0) (b .0), high-of x (y + 256 * 0) (b .0), low-of y 0 (b .1 .0))
+low-bytes (x ∷ y ∷ z ∷ l) b h = absurd (omega arith)
+
+asks-few : (e : Event) → asked e ≤ 2
+unfolding asked
+asks-few PowerReset = omega arith
+asks-few (Write offset value) = omega arith
+asks-few (Read offset) = go (eqb offset 0x16)
+  where
+    go : (t : Bool) → cond t 1 0 ≤ 2
+    go true = omega arith
+    go false = omega arith
+asks-few (WordWrite word) = omega arith
+asks-few WordRead = omega arith
+asks-few (Drive lines) = omega arith
+asks-few (Ticks n) = omega arith
+
+module _ (s : State) (b : Bytes (s .transfer .host)) where
+  abbrev Hands : Decoded → Stepped → Type 0
+  Hands d r = isRefusal (r .code) ≡ false → eventBytes (λ e. lowBytes (asked e) (r .value)) d ≡ eventBytes (λ e. take (asked e) (s .transfer .host)) d
+
+  hands-refused : (d : Decoded) (code : Code) (value : ℕ) → isRefusal code ≡ true → Hands d (refused s code value)
+  unfolding refused
+  hands-refused d code value q k = absurd (never (sym k ∙ q))
+
+  hands-reset : Hands (Well PowerReset) (refused powerReset Done 0)
+  unfolding asked
+  hands-reset k = refl
+
+  hands-event : (e : Event) → Passed s e → lowBytes (asked e) (valueRead s e) ≡ take (asked e) (s .transfer .host)
+  unfolding noBytes
+  hands-event e k = go (portRead e) refl
+    where
+      go : (t : Bool) → portRead e ≡ t → lowBytes (asked e) (valueRead s e) ≡ take (asked e) (s .transfer .host)
+      go true h =
+          let n = ltb-false (length (s .transfer .host)) (asked e) (k .bytes) in
+          let few = asks-few e in
+          let front = take (asked e) (s .transfer .host) in
+          let size : length front ≡ asked e = simp length-take (omega arith) in
+          let law = low-bytes front (bytes-take (asked e) (s .transfer .host) b) (rw size few) in
+          ap (λ (v : ℕ). lowBytes (asked e) v) (port-answer s e k h) ∙ rw size at law
+      go false h = rw (asks-none e h)
+
+  hands-done : (e : Event) → isDone (accessCode s e) ≡ true → Hands (Well e) (done s e)
+  unfolding done
+  hands-done e q k = hands-event e (passed s e q)
+
+  -- the low bytes of the value are the bytes that the host has read
+  pub read-hands : (bytes : List ℕ) → isRefusal ((step s bytes) .code) ≡ false → eventBytes (λ e. lowBytes (asked e) ((step s bytes) .value)) (decode bytes) ≡ eventBytes (λ e. take (asked e) (s .transfer .host)) (decode bytes)
+  read-hands = step-law s Hands hands-refused hands-reset hands-done

@@ -3,7 +3,7 @@ use mathlib.Core.Path.{_≡_, refl, sym, _∙_, ap}
 use mathlib.Core.Bool.{Bool, true, false, cond}
 use mathlib.Core.List.{List, [], _∷_, _++_}
 use Prim.Native.Nat.{ℕ, _+_, _%_, _≤_}
-use native.Mathlib.Nat.{add-zero}
+use native.Mathlib.Nat.{add-zero, zero-add}
 use native.Mathlib.Omega.{arith}
 use lib.ListN.{length, take, drop, length-append}
 use lib.Seq.{take-add, drop-drop, take-take}
@@ -11,11 +11,11 @@ use Rattle.rules.specs.State.{State}
 use Rattle.rules.specs.Records.{decode}
 use Rattle.rules.specs.Events.{offered}
 use Rattle.rules.specs.Step.{step, after}
-use Rattle.runs.specs.Comes.{isRefusal, eventBytes, along, acksAlong}
-use Rattle.runs.specs.Run.{accepted, sentBy}
+use Rattle.runs.specs.Comes.{isRefusal, eventBytes, allCome, along, acksAlong}
+use Rattle.runs.specs.Run.{Starts, runAllows, accepted, sentBy}
 use Rattle.runs.specs.Clearing.{allOff, allClear}
-use Rattle.runs.specs.Rounds.{Offers, Round, recordsOf, afterReading, afterRound, takenIn, numberRead, Proceeds, Follows, Chain, taken, reached, AllCleared, allRecords}
-use Rattle.runs.proofs.Along.{after-append, along-append}
+use Rattle.runs.specs.Rounds.{Offers, Round, recordsOf, afterReading, afterRound, takenIn, numberRead, Proceeds, Follows, Chain, taken, reached, afterRounds, Going, ChainGoing, takenSoFar, AllCleared, allRecords}
+use Rattle.runs.proofs.Along.{after-append, along-append, earlier-comes}
 use Rattle.runs.proofs.Clearing.{clearing-sends-nothing, Silent, off-by, no-ack-until-empty}
 use Rattle.runs.proofs.Sequence.{ClearingWorks, clearing-works}
 use Rattle.runs.proofs.WriteRun.{write-run}
@@ -36,14 +36,18 @@ accepted-prefix rest s (bytes ∷ more) h =
     (ap (λ (x : List ℕ). x ++ along accepted ((step s bytes) .state) more) (accepted-front rest s bytes (h .0))
     ∙ ap (λ (x : List ℕ). take (length (accepted s bytes)) rest ++ x) (accepted-prefix (drop (length (accepted s bytes)) rest) ((step s bytes) .state) more (h .1)))
 
--- what a round's target took is the front of the driver's data
-sent-prefix : (rest : List ℕ) (s : State) (r : Round) → Follows rest s r → along sentBy s (r .run) ≡ take (length (along sentBy s (r .run))) rest
-sent-prefix rest s r f =
-    let m = write-run s (r .run) (f .proceeds .start) (f .proceeds .run) in
-    let short : length (along sentBy s (r .run)) ≤ length (along accepted s (r .run)) = omega (arith, simp length-append at (ap length (m .order))) in
-    front (along sentBy s (r .run)) _ (along accepted s (r .run)) (m .order)
-    ∙ ap (λ (x : List ℕ). take (length (along sentBy s (r .run))) x) (accepted-prefix rest s (r .run) (f .offers))
-    ∙ take-take (length (along sentBy s (r .run))) (length (along accepted s (r .run))) rest short
+-- what the target of a run took is the front of the driver's data
+pub run-prefix : (rest : List ℕ) (s : State) (records : List (List ℕ)) → Going rest s records → along sentBy s records ≡ take (length (along sentBy s records)) rest
+run-prefix rest s records g =
+    let m = write-run s records (g .start) (g .run) in
+    let short : length (along sentBy s records) ≤ length (along accepted s records) = omega (arith, simp length-append at (ap length (m .order))) in
+    front (along sentBy s records) _ (along accepted s records) (m .order)
+    ∙ ap (λ (x : List ℕ). take (length (along sentBy s records)) x) (accepted-prefix rest s records (g .offers))
+    ∙ take-take (length (along sentBy s records)) (length (along accepted s records)) rest short
+
+-- the run of a round is such a run, up to its cut
+pub round-goes : (rest : List ℕ) (s : State) (r : Round) → Follows rest s r → Going rest s (r .run)
+round-goes rest s r f = record { start = f .proceeds .start; run = f .proceeds .run; offers = f .offers }
 
 -- one round
 pub record RoundSound (rest : List ℕ) (s : State) (r : Round) : Type 0 where
@@ -58,7 +62,7 @@ round rest s r f =
     let c = cut-and-read s r (f .proceeds) in
     record {
       number = c .number ∙ below (length (takenIn s r)) (f .bound);
-      beginning = c .inRun ∙ sent-prefix rest s r f ∙ ap (λ (x : List ℕ). take (length x) rest) (sym (c .inRun));
+      beginning = c .inRun ∙ run-prefix rest s (r .run) (round-goes rest s r f) ∙ ap (λ (x : List ℕ). take (length x) rest) (sym (c .inRun));
     }
 
 -- THE CHAIN, from the byte at which a round begins
@@ -81,6 +85,29 @@ chain-reached whole first s [] h = sym (add-zero first)
 chain-reached whole first s (r ∷ more) h =
     let n = (round (drop first whole) s r (h .0)) .number in
     chain-reached whole (first + numberRead s r) (afterRound s r) more (h .1) ∙ rw (length-append, n) (omega arith)
+
+-- THE CHAIN WITH ITS LAST RUN: what the target took in the rounds, then what it took so far, is a beginning of the driver's data
+pub chain-going : (whole : List ℕ) (s : State) (rounds : List Round) (records : List (List ℕ)) → ChainGoing whole s rounds records → takenSoFar s rounds records ≡ take (length (takenSoFar s rounds records)) whole
+chain-going whole s rounds records h =
+    let n : reached 0 s rounds ≡ length (taken s rounds) = chain-reached whole 0 s rounds (h .chain) ∙ zero-add (length (taken s rounds)) in
+    let q : taken s rounds ≡ take (reached 0 s rounds) whole = rw n (chain whole s rounds (h .chain)) in
+    let l = run-prefix (drop (reached 0 s rounds) whole) (afterRounds s rounds) records (h .last) in
+    rw (length-append, take-add, ← n)
+    (ap (λ (x : List ℕ). x ++ along sentBy (afterRounds s rounds) records) q ∙ ap (λ (x : List ℕ). take (reached 0 s rounds) whole ++ x) l)
+
+-- the records up to any moment of a run that is going are such a run: every moment is a case of the chain
+offers-earlier : (rest : List ℕ) (s : State) (earlier later : List (List ℕ)) → Offers rest s (earlier ++ later) → Offers rest s earlier
+offers-earlier rest s [] later h = tt
+offers-earlier rest s (bytes ∷ more) later h =
+    (h .0, offers-earlier (drop (length (accepted s bytes)) rest) ((step s bytes) .state) more later (h .1))
+
+pub goes-earlier : (rest : List ℕ) (s : State) (earlier later : List (List ℕ)) → Going rest s (earlier ++ later) → Going rest s earlier
+goes-earlier rest s earlier later g =
+    record {
+      start = g .start;
+      run = earlier-comes runAllows s earlier later (g .run);
+      offers = offers-earlier rest s earlier later (g .offers);
+    }
 
 -- where every clearing keeps the paper's condition, no byte is sent but those taken in runs
 pub only-taken-is-sent : (s : State) (rounds : List Round) → AllCleared s rounds → along sentBy s (allRecords rounds) ≡ taken s rounds

@@ -70,6 +70,10 @@ unfolding afterB applied registersB
 write-A s e = refl
 
 -- outbound no REQ stores a byte: it is matched only with IO not seen
+pub spioen-A : (s : State) (e : Event) → (afterB s e) .registers .sxfrctl0 .spioen ≡ (afterA s e) .registers .sxfrctl0 .spioen
+unfolding afterB applied registersB
+spioen-A s e = refl
+
 pub outbound-stores-none : (s : State) (e : Event) → (afterB s e) .registers .dmacntrl0 .write ≡ true → (edgesOf s e) .stored ≡ false
 unfolding edgesOf edges synchronousReq matched path
 outbound-stores-none s e h =
@@ -129,7 +133,7 @@ module _ (r : Registers) where
   no-port-write (Drive lines) w h = refl
   no-port-write (Ticks n) w h = refl
 
-asks-none : (e : Event) → portRead e ≡ false → asked e ≡ 0
+pub asks-none : (e : Event) → portRead e ≡ false → asked e ≡ 0
 unfolding portRead asked
 asks-none PowerReset h = refl
 asks-none (Write offset value) h = refl

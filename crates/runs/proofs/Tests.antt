@@ -23,7 +23,7 @@ use Rattle.runs.specs.Cut.{isCut, calm, readAnswers}
 use Rattle.runs.specs.Clearing.{allClear}
 use Rattle.runs.specs.Rounds.{Offers, Round, afterCut, afterReading, afterRound, takenIn, numberRead, Proceeds, Follows, Chain, AllCleared}
 
-same-eq : (a b : List ℕ) → same a b ≡ true → a ≡ b
+pub same-eq : (a b : List ℕ) → same a b ≡ true → a ≡ b
 same-eq [] [] h = refl
 same-eq [] (y ∷ b) h = absurd (never h)
 same-eq (x ∷ a) [] h = absurd (never h)

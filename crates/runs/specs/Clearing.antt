@@ -1,6 +1,6 @@
 -- The clearing: from the cut to the next start.
 use Prim.Native.Nat.{ℕ, _+_}
-use mathlib.Core.Bool.{Bool, true, not, _&&_, _||_, cond}
+use mathlib.Core.Bool.{Bool, true, false, not, _&&_, _||_, cond}
 use mathlib.Core.List.{List, [], _∷_}
 use lib.Dec.{eqb}
 use lib.ListN.{length}
@@ -13,6 +13,7 @@ use Rattle.rules.specs.Step.{step}
 use Rattle.rules.specs.declared.map.Register.{Register}
 use Rattle.rules.specs.declared.map.Register.the-variants.{SXFRCTL0, SCSISIGO, DMACNTRL0}
 use Rattle.rules.specs.declared.records.Event.{Event}
+use Rattle.rules.specs.declared.records.Event.the-variants.{PowerReset, Write, Read, WordWrite, WordRead, Drive, Ticks}
 use Rattle.runs.specs.Comes.{mayCome}
 use Rattle.runs.specs.Run.{accepted}
 
@@ -40,6 +41,16 @@ abbrev pub allOff : State → List (List ℕ) → Bool
 allOff s [] = true
 allOff s (bytes ∷ more) =
     switchedOff ((step s bytes) .state) && mayCome leavesAcko s bytes && allOff ((step s bytes) .state) more
+
+-- what a driver can tell of a record by itself: it leaves SCSIEN and SPIOEN 0, since it is no power reset and sets neither in 341h
+abbrev pub staysOff : Event → Bool
+staysOff PowerReset = false
+staysOff (Write offset value) = not (eqb offset (offsetOf SXFRCTL0) && (bit value 7 || bit value 3))
+staysOff (Read offset) = true
+staysOff (WordWrite word) = true
+staysOff WordRead = true
+staysOff (Drive lines) = true
+staysOff (Ticks n) = true
 
 -- every record gets code 0
 abbrev pub allDone : State → List (List ℕ) → Bool

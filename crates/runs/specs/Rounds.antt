@@ -82,6 +82,26 @@ abbrev pub reached : ℕ → State → List Round → ℕ
 reached first s [] = first
 reached first s (r ∷ more) = reached (first + numberRead s r) (afterRound s r) more
 
+-- where the rounds leave the chip
+abbrev pub afterRounds : State → List Round → State
+afterRounds s [] = s
+afterRounds s (r ∷ more) = afterRounds (afterRound s r) more
+
+-- a run that is still going: it started, its records are allowed, its port writes offer these bytes in order; no cut, no bound
+pub record Going (bytes : List ℕ) (s : State) (records : List (List ℕ)) : Type 0 where
+  pub start : Starts true s
+  pub run : allCome runAllows s records ≡ true
+  pub offers : Offers bytes s records
+
+-- any number of rounds and then such a run, from the byte that the rounds reached: n cuts mean n + 1 runs
+pub record ChainGoing (whole : List ℕ) (s : State) (rounds : List Round) (records : List (List ℕ)) : Type 0 where
+  pub chain : Chain whole 0 s rounds
+  pub last : Going (drop (reached 0 s rounds) whole) (afterRounds s rounds) records
+
+-- what the target took in the rounds, then what it took so far
+abbrev pub takenSoFar : State → List Round → List (List ℕ) → List ℕ
+takenSoFar s rounds records = taken s rounds ++ along sentBy (afterRounds s rounds) records
+
 -- every clearing keeps the paper's condition
 abbrev pub AllCleared : State → List Round → Type 0
 AllCleared s [] = Unit {0}

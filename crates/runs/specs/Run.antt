@@ -1,5 +1,5 @@
 -- A run: how it starts, what it allows, and the bytes that go in and out.
-use Prim.Native.Nat.{ℕ}
+use Prim.Native.Nat.{ℕ, _/_, _%_}
 use mathlib.Core.Path.{_≡_}
 use mathlib.Core.Bool.{Bool, true, false, not, _&&_, _||_, cond}
 use mathlib.Core.List.{List, [], _∷_, _++_}
@@ -63,6 +63,10 @@ sentBy s bytes = (step s bytes) .sent
 -- "bytes read by the host": what a port read takes off the host FIFO's front
 abbrev pub hostRead : State → List ℕ → List ℕ
 hostRead s bytes = unlessRefused (λ e. take (asked e) (s .transfer .host)) (decode bytes) ((step s bytes) .code)
+
+-- "A word's low byte comes first.": so many bytes of the value that a port read answers
+abbrev pub lowBytes : ℕ → ℕ → List ℕ
+lowBytes n value = take n (value % 256 ∷ value / 256 % 256 ∷ [])
 
 -- "what the chip took": in B the data seen with a synchronous REQ, where it is stored
 unfoldable pub tookAtReq : State → Event → List ℕ
