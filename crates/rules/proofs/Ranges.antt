@@ -26,7 +26,7 @@ use Rattle.rules.specs.StepB.{rstRises, synchronousReq, beyondLimit, reg
 use Rattle.rules.specs.StepC.{Settling, conditions, canMove, move, canHandshake, storedBy, handshake, settle, turns, started, settledC}
 use Rattle.rules.specs.StepD.{finished, afterD}
 use Rattle.rules.specs.Answers.{Stepped, controlDriven, answerOf, answerBytes}
-use Rattle.rules.specs.Step.{refused, done, access, stepEvent, stepDecoded, step, answer, after}
+use Rattle.rules.specs.Step.{ended, done, access, stepEvent, stepDecoded, step, answer, after}
 use Rattle.rules.specs.Ranges.{EventFits, DecodedFits, TransferFits, RegistersFit, StackFits, InRange, Bytes, TransferBytes, RegistersBytes, InBytes}
 use Rattle.rules.specs.declared.registers.Scsirate.{Scsirate}
 use Rattle.rules.specs.declared.registers.Scsiid.{Scsiid}
@@ -617,13 +617,13 @@ pub record StepBytes (r : Stepped) : Type 0 where
   pub value : r .value < 65536
   pub sent : Bytes (r .sent)
 
-refused-fits : (s : State) (code : Code) (value : ℕ) → InRange s → StepFits (refused s code value)
-unfolding refused
-refused-fits s code value i = record { state = i; moves = omega arith; acks = omega arith; sent = omega arith }
+ended-fits : (s : State) (code : Code) (value : ℕ) → InRange s → StepFits (ended s code value)
+unfolding ended
+ended-fits s code value i = record { state = i; moves = omega arith; acks = omega arith; sent = omega arith }
 
-refused-bytes : (s : State) (code : Code) (value : ℕ) → value < 65536 → InBytes s → StepBytes (refused s code value)
-unfolding refused
-refused-bytes s code value h i = record { state = i; value = h; sent = tt }
+ended-bytes : (s : State) (code : Code) (value : ℕ) → value < 65536 → InBytes s → StepBytes (ended s code value)
+unfolding ended
+ended-bytes s code value h i = record { state = i; value = h; sent = tt }
 
 -- a code that counts as done is Done
 is-done : (c : Code) → isDone c ≡ true → c ≡ Done
@@ -667,17 +667,17 @@ access-fits : (s : State) (e : Event) → EventFits e → InRange s → StepFits
 unfolding access
 access-fits s e f i =
     cond-case StepFits (isDone (accessCode s e)) _ _ (λ d. done-fits s e f d i)
-    (λ d. refused-fits s (accessCode s e) (refusedValue e) i)
+    (λ d. ended-fits s (accessCode s e) (refusedValue e) i)
 
 access-bytes : (s : State) (e : Event) → EventFits e → InRange s → InBytes s → StepBytes (access s e)
 unfolding access
 access-bytes s e f i j =
     cond-case StepBytes (isDone (accessCode s e)) _ _ (λ d. done-bytes s e f i j)
-    (λ d. refused-bytes s (accessCode s e) (refusedValue e) (refused-value-fits e) j)
+    (λ d. ended-bytes s (accessCode s e) (refusedValue e) (refused-value-fits e) j)
 
 event-step-fits : (s : State) (e : Event) → EventFits e → InRange s → StepFits (stepEvent s e)
 unfolding stepEvent
-event-step-fits s PowerReset f i = refused-fits powerReset Done 0 power-reset-fits
+event-step-fits s PowerReset f i = ended-fits powerReset Done 0 power-reset-fits
 event-step-fits s (Write offset value) f i = access-fits s (Write offset value) f i
 event-step-fits s (Read offset) f i = access-fits s (Read offset) f i
 event-step-fits s (WordWrite word) f i = access-fits s (WordWrite word) f i
@@ -687,7 +687,7 @@ event-step-fits s (Ticks n) f i = access-fits s (Ticks n) f i
 
 event-step-bytes : (s : State) (e : Event) → EventFits e → InRange s → InBytes s → StepBytes (stepEvent s e)
 unfolding stepEvent
-event-step-bytes s PowerReset f i j = refused-bytes powerReset Done 0 (omega arith) power-reset-bytes
+event-step-bytes s PowerReset f i j = ended-bytes powerReset Done 0 (omega arith) power-reset-bytes
 event-step-bytes s (Write offset value) f i j = access-bytes s (Write offset value) f i j
 event-step-bytes s (Read offset) f i j = access-bytes s (Read offset) f i j
 event-step-bytes s (WordWrite word) f i j = access-bytes s (WordWrite word) f i j
@@ -698,12 +698,12 @@ event-step-bytes s (Ticks n) f i j = access-bytes s (Ticks n) f i j
 decoded-step-fits : (s : State) (d : Decoded) → DecodedFits d → InRange s → StepFits (stepDecoded s d)
 unfolding stepDecoded
 decoded-step-fits s (Well e) f i = event-step-fits s e f i
-decoded-step-fits s Ill f i = refused-fits s Malformed 0 i
+decoded-step-fits s Ill f i = ended-fits s Malformed 0 i
 
 decoded-step-bytes : (s : State) (d : Decoded) → DecodedFits d → InRange s → InBytes s → StepBytes (stepDecoded s d)
 unfolding stepDecoded
 decoded-step-bytes s (Well e) f i j = event-step-bytes s e f i j
-decoded-step-bytes s Ill f i j = refused-bytes s Malformed 0 (omega arith) j
+decoded-step-bytes s Ill f i j = ended-bytes s Malformed 0 (omega arith) j
 
 -- EVERY RECORD, whatever numbers it holds, leaves the state in range and reports at most 16 moves, 8 ACKs and 8 bytes
 pub step-fits : (s : State) (bytes : List ℕ) → InRange s → StepFits (step s bytes)

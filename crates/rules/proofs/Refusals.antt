@@ -12,7 +12,7 @@ use Rattle.rules.specs.Codes.{numberOf, absent, testValue, shut, noRoom,
 use Rattle.rules.specs.StepA.{afterA}
 use Rattle.rules.specs.StepB.{edges, edgesOf, synchronousReq, reqRises, beyondLimit}
 use Rattle.rules.specs.Answers.{Stepped}
-use Rattle.rules.specs.Step.{refused, done, access, stepEvent, stepDecoded, step}
+use Rattle.rules.specs.Step.{ended, done, access, stepEvent, stepDecoded, step}
 use Rattle.rules.specs.declared.codes.Code.{Code}
 use Rattle.rules.specs.declared.codes.Code.the-variants.{Done, Malformed, Absent, Shut, NoRoom, NoBytes, BeyondLimit, TestValue}
 use Rattle.rules.specs.declared.records.Lines.{Lines}
@@ -84,7 +84,7 @@ done-passed s e h =
 
 -- 1 comes first: a record that is not well formed gets it whatever the state
 pub first-malformed : (s : State) (bytes : List ℕ) → decode bytes ≡ Ill → (step s bytes) .code ≡ Malformed
-unfolding step stepDecoded refused
+unfolding step stepDecoded ended
 first-malformed s bytes e = rw e
 
 pub record Unchanged (s : State) (r : Stepped) : Type 0 where
@@ -99,14 +99,14 @@ done-unrefused s e =
     cond-case (λ (c : Code). isRefusal c ≡ true → ⊥) ((edgesOf s e) .beyond) BeyondLimit Done (λ q. never) (λ q. never)
 
 access-refused : (s : State) (e : Event) → isRefusal ((access s e) .code) ≡ true → Unchanged s (access s e)
-unfolding access refused
+unfolding access ended
 access-refused s e =
     cond-case (λ (r : Stepped). isRefusal (r .code) ≡ true → Unchanged s r) (isDone (accessCode s e)) _ _
     (λ q h. absurd (done-unrefused s e h)) (λ q h. record { state = refl; moves = refl; acks = refl; sent = refl })
 
 -- a refusal changes nothing and reports no ACK, no move, no sent byte
 pub refusal-changes-nothing : (s : State) (bytes : List ℕ) → isRefusal ((step s bytes) .code) ≡ true → Unchanged s (step s bytes)
-unfolding step stepDecoded stepEvent refused
+unfolding step stepDecoded stepEvent ended
 refusal-changes-nothing s bytes = go (decode bytes)
   where
     go : (d : Decoded) → isRefusal ((stepDecoded s d) .code) ≡ true → Unchanged s (stepDecoded s d)
@@ -121,13 +121,13 @@ refusal-changes-nothing s bytes = go (decode bytes)
 
 -- the value of a refusal: "FFh on read", "all ones of the width on read", "0 on write"
 access-value : (s : State) (e : Event) → isRefusal ((access s e) .code) ≡ true → (access s e) .value ≡ refusedValue e
-unfolding access refused
+unfolding access ended
 access-value s e =
     cond-case (λ (r : Stepped). isRefusal (r .code) ≡ true → r .value ≡ refusedValue e) (isDone (accessCode s e)) _ _
     (λ q h. absurd (done-unrefused s e h)) (λ q h. refl)
 
 pub refusal-value : (s : State) (e : Event) → isRefusal ((stepEvent s e) .code) ≡ true → (stepEvent s e) .value ≡ refusedValue e
-unfolding stepEvent refused
+unfolding stepEvent ended
 refusal-value s PowerReset h = absurd (never h)
 refusal-value s (Write o v) h = access-value s (Write o v) h
 refusal-value s (Read o) h = access-value s (Read o) h
@@ -160,14 +160,14 @@ checks-beyond s e =
     at false f g = g
 
 access-beyond : (s : State) (e : Event) → linesAfter e (s .lines) ≡ s .lines → (access s e) .code ≡ BeyondLimit → ⊥
-unfolding access refused
+unfolding access ended
 access-beyond s e h =
     cond-case (λ (r : Stepped). r .code ≡ BeyondLimit → ⊥) (isDone (accessCode s e)) _ _ (λ q. done-beyond s e h)
     (λ q. checks-beyond s e)
 
 -- "6 arises only in kind 5"
 pub beyond-only-lines : (s : State) (bytes : List ℕ) → (step s bytes) .code ≡ BeyondLimit → (l : Lines) × (decode bytes ≡ Well (Drive l))
-unfolding step stepDecoded stepEvent refused linesAfter
+unfolding step stepDecoded stepEvent ended linesAfter
 beyond-only-lines s bytes = go (decode bytes)
   where
     go : (d : Decoded) → (stepDecoded s d) .code ≡ BeyondLimit → (l : Lines) × (d ≡ Well (Drive l))

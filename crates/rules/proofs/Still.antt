@@ -19,7 +19,7 @@ use Rattle.rules.specs.StepB.{reqFalls, rstRises, reqRises, parityBad, s
 use Rattle.rules.specs.StepC.{conditions, canMove, canHandshake, canSynchronous, canAsynchronous, settle, turns, started, settledC}
 use Rattle.rules.specs.StepD.{fifoConflict, pioReady, statusRaised, statusD, latchesD, finished, afterD}
 use Rattle.rules.specs.Answers.{Stepped}
-use Rattle.rules.specs.Step.{refused, done, access, stepEvent, stepDecoded, step, after}
+use Rattle.rules.specs.Step.{ended, done, access, stepEvent, stepDecoded, step, after}
 use Rattle.rules.specs.Ranges.{EventFits, DecodedFits, InRange}
 use Rattle.rules.specs.declared.registers.Registers.{Registers}
 use Rattle.rules.specs.declared.records.Event.{Event}
@@ -58,7 +58,7 @@ clear-already true status h = refl
 clear-already false status h = sym (h refl)
 
 -- a latch whose status does not rise and whose enable is as before stays as it is
-latch-still : (kept enable status : Bool) → latched kept enable enable status status ≡ kept
+latch-still : (kept enable status : Bool) → latched (record { kept = kept; enable = enable; enabledBefore = enable; status = status; raised = status }) ≡ kept
 latch-still true enable status = refl
 latch-still false true true = refl
 latch-still false true false = refl
@@ -377,13 +377,13 @@ done-rests s e b =
 
 -- what a refusal and an access leave
 access-rests : (s : State) (e : Event) → EventFits e → InRange s → AtRest s → AtRest ((access s e) .state)
-unfolding access done refused
+unfolding access done ended
 access-rests s e f i r =
     cond-case (λ (k : Stepped). AtRest (k .state)) (isDone (accessCode s e)) _ _
     (λ d. done-rests s e (after-b-fits s e f d i)) (λ d. r)
 
 event-rests : (s : State) (e : Event) → EventFits e → InRange s → AtRest s → AtRest ((stepEvent s e) .state)
-unfolding stepEvent refused
+unfolding stepEvent ended
 event-rests s PowerReset f i r = power-reset-rests
 event-rests s (Write offset value) f i r = access-rests s (Write offset value) f i r
 event-rests s (Read offset) f i r = access-rests s (Read offset) f i r
@@ -393,7 +393,7 @@ event-rests s (Drive lines) f i r = access-rests s (Drive lines) f i r
 event-rests s (Ticks n) f i r = access-rests s (Ticks n) f i r
 
 decoded-rests : (s : State) (d : Decoded) → DecodedFits d → InRange s → AtRest s → AtRest ((stepDecoded s d) .state)
-unfolding stepDecoded refused
+unfolding stepDecoded ended
 decoded-rests s (Well e) f i r = event-rests s e f i r
 decoded-rests s Ill f i r = r
 

@@ -18,7 +18,7 @@ use Rattle.rules.specs.StepB.{registersB, transferB, applied, edgesOf, afterB}
 use Rattle.rules.specs.StepC.{Settling, conditions, started, turns, settledC}
 use Rattle.rules.specs.StepD.{finished, afterD}
 use Rattle.rules.specs.Answers.{Stepped}
-use Rattle.rules.specs.Step.{refused, done, step, after}
+use Rattle.rules.specs.Step.{ended, refused, done, step, after}
 use Rattle.rules.specs.declared.registers.Scsisig.{Scsisig}
 use Rattle.rules.specs.declared.map.Register.the-variants.{SCSISIGO}
 use Rattle.rules.specs.declared.codes.Code.{Code}
@@ -77,11 +77,11 @@ module _ (s : State) where
   Clears d r = (switchedOff (r .state) || (bothEmpty s && eqb (length (unlessRefused offered d (r .code))) 0)) ≡ true → r .sent ≡ []
 
   clears-refused : (d : Decoded) (code : Code) (value : ℕ) → isRefusal code ≡ true → Clears d (refused s code value)
-  unfolding refused
+  unfolding ended
   clears-refused d code value q h = refl
 
-  clears-reset : Clears (Well PowerReset) (refused powerReset Done 0)
-  unfolding refused
+  clears-reset : Clears (Well PowerReset) (ended powerReset Done 0)
+  unfolding ended
   clears-reset h = refl
 
   off-sends-none : (e : Event) → switchedOff ((done s e) .state) ≡ true → (done s e) .sent ≡ []
@@ -165,11 +165,11 @@ module _ (s : State) (o : switchedOff s ≡ true) (a : s .registers .scsisig .ac
   Silences d r = switchedOff (r .state) ≡ true → (isRefusal (r .code) || says leavesAcko d) ≡ true → Silent s (r .state) (r .acks)
 
   silent-refused : (d : Decoded) (code : Code) (value : ℕ) → isRefusal code ≡ true → Silences d (refused s code value)
-  unfolding refused
+  unfolding ended
   silent-refused d code value q h k = record { none = refl; off = o; acko = a; ack = λ t. t }
 
-  silent-reset : Silences (Well PowerReset) (refused powerReset Done 0)
-  unfolding refused powerReset
+  silent-reset : Silences (Well PowerReset) (ended powerReset Done 0)
+  unfolding ended powerReset
   silent-reset h k = record { none = refl; off = h; acko = refl; ack = λ t. absurd (never t) }
 
   silent-done : (e : Event) → isDone (accessCode s e) ≡ true → Silences (Well e) (done s e)

@@ -22,7 +22,7 @@ use Rattle.rules.specs.StepB.{registersB, applied, edgesOf, afterB}
 use Rattle.rules.specs.StepC.{conditions, started, turns, settledC}
 use Rattle.rules.specs.StepD.{finished, afterD}
 use Rattle.rules.specs.Answers.{Stepped}
-use Rattle.rules.specs.Step.{refused, done, step, after}
+use Rattle.rules.specs.Step.{ended, refused, done, step, after}
 use Rattle.rules.specs.declared.codes.Code.{Code}
 use Rattle.rules.specs.declared.codes.Code.the-variants.{Done, Malformed, Absent, Shut, NoRoom, NoBytes, BeyondLimit, TestValue}
 use Rattle.rules.specs.declared.map.Register.{Register}
@@ -87,7 +87,7 @@ calm-A s e h o =
 
 module _ (w : Bool) (s : State) (o : s .registers .sxfrctl0 .scsien ≡ false) (h : Held w (s .registers)) where
   calm-refused : (d : Decoded) (code : Code) (value : ℕ) → isRefusal code ≡ true → Quiet w s ((refused s code value) .state) ((refused s code value) .sent)
-  unfolding refused
+  unfolding ended
   calm-refused d code value q = record { off = o; held = h; same = refl; none = refl }
 
   pub step-quiet : (bytes : List ℕ) → mayCome calm s bytes ≡ true → Quiet w s ((step s bytes) .state) (sentBy s bytes)
@@ -143,10 +143,10 @@ module _ (w : Bool) (s : State) (h : Held w (s .registers)) where
   Stops d r = says isCut d ≡ true → isDone (r .code) ≡ true → Quiet w s (r .state) (r .sent)
 
   cut-refused : (d : Decoded) (code : Code) (value : ℕ) → isRefusal code ≡ true → Stops d (refused s code value)
-  unfolding refused
+  unfolding ended
   cut-refused d code value q k c = absurd (done-is-no-refusal code c q)
 
-  cut-reset : Stops (Well PowerReset) (refused powerReset Done 0)
+  cut-reset : Stops (Well PowerReset) (ended powerReset Done 0)
   unfolding isCut writes
   cut-reset k c = absurd (never k)
 
@@ -161,10 +161,10 @@ module _ (r : Register) (there : readAt (offsetOf r) ≡ Present r) (s : State) 
   Gives d x = isDone (x .code) ≡ true → says (λ e. reads e r) d ≡ true → x .value ≡ readOf s r
 
   gives-refused : (d : Decoded) (code : Code) (value : ℕ) → isRefusal code ≡ true → Gives d (refused s code value)
-  unfolding refused
+  unfolding ended
   gives-refused d code value q c k = absurd (done-is-no-refusal code c q)
 
-  gives-reset : Gives (Well PowerReset) (refused powerReset Done 0)
+  gives-reset : Gives (Well PowerReset) (ended powerReset Done 0)
   unfolding reads
   gives-reset c k = absurd (never k)
 

@@ -18,7 +18,7 @@ use Rattle.rules.specs.StepB.{transferB, applied, edgesOf, afterB}
 use Rattle.rules.specs.StepC.{conditions, started, turns, settledC}
 use Rattle.rules.specs.StepD.{finished, afterD}
 use Rattle.rules.specs.Answers.{Stepped}
-use Rattle.rules.specs.Step.{refused, done, step, after}
+use Rattle.rules.specs.Step.{ended, refused, done, step, after}
 use Rattle.rules.specs.declared.codes.Code.{Code}
 use Rattle.rules.specs.declared.codes.Code.the-variants.{Done}
 use Rattle.rules.specs.declared.records.Event.{Event}
@@ -109,7 +109,7 @@ module _ (s : State) (a b : List ℕ) (i : ReadMoment s a b) where
       ReadMoment (r .state) (a ++ unlessRefused (took s) d (r .code)) (b ++ unlessRefused (λ e. take (asked e) (s .transfer .host)) d (r .code))
 
   next-refused : (d : Decoded) (code : Code) (value : ℕ) → isRefusal code ≡ true → Next d (refused s code value)
-  unfolding refused
+  unfolding ended
   next-refused d code value q = rw (q, append-nil a, append-nil b) i
 
   next-done : (e : Event) → runAllows e ≡ true → isDone (accessCode s e) ≡ true → Next (Well e) (done s e)
@@ -144,10 +144,10 @@ module _ (s : State) where
   Answers d r = says portRead d ≡ true → isRefusal (r .code) ≡ false → r .value ≡ littleEndian (unlessRefused (λ e. take (asked e) (s .transfer .host)) d (r .code))
 
   answers-refused : (d : Decoded) (code : Code) (value : ℕ) → isRefusal code ≡ true → Answers d (refused s code value)
-  unfolding refused
+  unfolding ended
   answers-refused d code value q h k = absurd (never (sym k ∙ q))
 
-  answers-reset : Answers (Well PowerReset) (refused powerReset Done 0)
+  answers-reset : Answers (Well PowerReset) (ended powerReset Done 0)
   unfolding portRead
   answers-reset h k = absurd (never h)
 
