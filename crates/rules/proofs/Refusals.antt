@@ -5,12 +5,11 @@ use mathlib.Core.List.{List, [], _∷_}
 use Prim.Native.Nat.{ℕ, _≤_}
 use native.Mathlib.Omega.{arith}
 use Rattle.rules.specs.State.{State, powerReset}
-use Rattle.rules.specs.Seen.{reqSeen, rstSeen, matched, path, synchronous}
 use Rattle.rules.specs.Records.{decode}
 use Rattle.rules.specs.Events.{linesAfter, ticksOf}
 use Rattle.rules.specs.Codes.{numberOf, absent, testValue, shut, noRoom, noBytes, accessCode, refusedValue, isDone, isRefusal}
 use Rattle.rules.specs.StepA.{afterA}
-use Rattle.rules.specs.StepB.{edges, edgesOf, synchronousReq, reqRises, beyondLimit}
+use Rattle.rules.specs.StepB.{reqRises, beyond, atReq}
 use Rattle.rules.specs.Answers.{Stepped}
 use Rattle.rules.specs.Step.{ended, done, access, stepEvent, stepDecoded, step}
 use Rattle.rules.specs.declared.codes.Code.{Code}
@@ -22,6 +21,7 @@ use Rattle.rules.specs.declared.records.Decoded.{Decoded}
 use Rattle.rules.specs.declared.records.Decoded.the-variants.{Well, Ill}
 use Rattle.rules.specs.Examples.{Row, row, misses}
 use Rattle.rules.proofs.Computes.{computes}
+use Rattle.rules.proofs.InOrder.{Apart, req-leaves}
 use Rattle.rules.proofs.Logic.{never, cond-case}
 
 -- eight codes, 0 to 7
@@ -96,7 +96,7 @@ pub record Unchanged (s : State) (r : Stepped) : Type 0 where
 done-unrefused : (s : State) (e : Event) → isRefusal ((done s e) .code) ≡ true → ⊥
 unfolding done
 done-unrefused s e =
-    cond-case (λ (c : Code). isRefusal c ≡ true → ⊥) ((edgesOf s e) .beyond) BeyondLimit Done (λ q. never) (λ q. never)
+    cond-case (λ (c : Code). isRefusal c ≡ true → ⊥) (beyond s (atReq s e)) BeyondLimit Done (λ q. never) (λ q. never)
 
 access-refused : (s : State) (e : Event) → isRefusal ((access s e) .code) ≡ true → Unchanged s (access s e)
 unfolding access ended
@@ -137,9 +137,13 @@ refusal-value s (Drive l) h = access-value s (Drive l) h
 refusal-value s (Ticks n) h = access-value s (Ticks n) h
 
 -- an event that leaves the lines as they are raises no REQ
-no-req : (s : State) (e : Event) → linesAfter e (s .lines) ≡ s .lines → (edgesOf s e) .beyond ≡ false
-unfolding edgesOf edges synchronousReq reqRises afterA
-no-req s e h = rw (h, and-not-self)
+lines-at : (s : State) (e : Event) → (atReq s e) .lines ≡ linesAfter e (s .lines)
+unfolding afterA
+lines-at s e = ap (λ (a : Apart). a .lines) (req-leaves s e)
+
+pub no-req : (s : State) (e : Event) → linesAfter e (s .lines) ≡ s .lines → beyond s (atReq s e) ≡ false
+unfolding beyond reqRises
+no-req s e h = rw (lines-at s e ∙ h, and-not-self)
 
 done-beyond : (s : State) (e : Event) → linesAfter e (s .lines) ≡ s .lines → (done s e) .code ≡ BeyondLimit → ⊥
 unfolding done

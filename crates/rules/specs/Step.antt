@@ -8,7 +8,7 @@ use Rattle.rules.specs.State.{State, powerReset}
 use Rattle.rules.specs.Records.{decode}
 use Rattle.rules.specs.Reads.{valueRead}
 use Rattle.rules.specs.Codes.{numberOf, accessCode, refusedValue, isDone}
-use Rattle.rules.specs.StepB.{edgesOf}
+use Rattle.rules.specs.StepB.{beyond, atReq}
 use Rattle.rules.specs.StepC.{Settling, settledC}
 use Rattle.rules.specs.StepD.{afterD}
 use Rattle.rules.specs.Answers.{Stepped, answerOf, answerBytes, answerSize}
@@ -32,7 +32,7 @@ unfoldable pub done : State → Event → Stepped
 done s e =
     record {
       state = afterD s e;
-      code = cond ((edgesOf s e) .beyond) BeyondLimit Done;
+      code = cond (beyond s (atReq s e)) BeyondLimit Done;
       value = valueRead s e;
       moves = (settledC s e) .moves;
       acks = (settledC s e) .acks;
