@@ -141,13 +141,17 @@ lines-at : (s : State) (e : Event) → (atReq s e) .lines ≡ linesAfter e (s .l
 unfolding afterA
 lines-at s e = ap (λ (a : Apart). a .lines) (req-leaves s e)
 
-pub no-req : (s : State) (e : Event) → linesAfter e (s .lines) ≡ s .lines → beyond s (atReq s e) ≡ false
-unfolding beyond reqRises
-no-req s e h = rw (lines-at s e ∙ h, and-not-self)
+pub no-rise : (s : State) (e : Event) → linesAfter e (s .lines) ≡ s .lines → reqRises s (atReq s e) ≡ false
+unfolding reqRises
+no-rise s e h = rw (lines-at s e ∙ h, and-not-self)
+
+pub not-beyond : (s : State) (e : Event) → linesAfter e (s .lines) ≡ s .lines → beyond s (atReq s e) ≡ false
+unfolding beyond
+not-beyond s e h = rw (no-rise s e h)
 
 done-beyond : (s : State) (e : Event) → linesAfter e (s .lines) ≡ s .lines → (done s e) .code ≡ BeyondLimit → ⊥
 unfolding done
-done-beyond s e h = rw (no-req s e h) (λ q. omega (arith, ap numberOf q))
+done-beyond s e h = rw (not-beyond s e h) (λ q. omega (arith, ap numberOf q))
 
 -- no check gives 6
 checks-beyond : (s : State) (e : Event) → accessCode s e ≡ BeyondLimit → ⊥

@@ -33,7 +33,7 @@ use Rattle.rules.specs.declared.chip.Latches.{Latches}
 use Rattle.rules.proofs.Computes.{computes}
 use Rattle.rules.proofs.Logic.{never, cond-case}
 use Rattle.rules.proofs.InOrder.{Keeps, b-keeps}
-use Rattle.rules.proofs.Refusals.{no-req}
+use Rattle.rules.proofs.Refusals.{not-beyond}
 use Rattle.rules.proofs.Ranges.{decode-fits, after-b-fits, power-reset-fits, step-fits, always-in-range}
 use Rattle.rules.proofs.Rest.{Resting, settle-rests, settling-rests}
 
@@ -228,7 +228,7 @@ ticks-done s h = rw (le-ltb 128 (length (s .transfer .host) + 0) (omega arith), 
 
 ticks-beyond : (s : State) → beyond s (atReq s (Ticks 0)) ≡ false
 unfolding linesAfter
-ticks-beyond s = no-req s (Ticks 0) refl
+ticks-beyond s = not-beyond s (Ticks 0) refl
 
 done-still : (s : State) → AtRest s → s .quiet ≤ 8 → done s (Ticks 0) ≡ nothing s
 unfolding done valueRead started

@@ -6,7 +6,7 @@ use Prim.Native.Nat.{ℕ}
 use Rattle.rules.specs.State.{State, powerReset}
 use Rattle.rules.specs.Records.{decode}
 use Rattle.rules.specs.Codes.{absent, testValue, shut, noRoom, noBytes, accessCode, refusedValue, isDone}
-use Rattle.rules.specs.StepB.{edgesOf}
+use Rattle.rules.specs.StepB.{beyond, atReq}
 use Rattle.rules.specs.Answers.{Stepped}
 use Rattle.rules.specs.Step.{ended, refused, done, access, stepEvent, stepDecoded, step}
 use Rattle.rules.specs.declared.codes.Code.{Code}
@@ -57,7 +57,7 @@ passed s e h =
 -- a step that is done is no refusal
 pub done-code : (s : State) (e : Event) → isRefusal ((done s e) .code) ≡ false
 unfolding done
-done-code s e = go ((edgesOf s e) .beyond)
+done-code s e = go (beyond s (atReq s e))
   where
     go : (b : Bool) → isRefusal (cond b BeyondLimit Done) ≡ false
     go true = refl

@@ -1,7 +1,7 @@
 -- The clearing: no byte is sent from the cut to the next start, whatever the order, as long as the paper's condition holds.
 use mathlib.Core.Path.{_≡_, refl, sym, _∙_, ap}
 use mathlib.Core.Bool.{Bool, true, false, not, _&&_, _||_, cond, and-false}
-use mathlib.Core.List.{List, [], _∷_}
+use mathlib.Core.List.{List, [], _∷_, _++_}
 use Prim.Native.Nat.{ℕ}
 use native.Mathlib.Omega.{arith}
 use lib.Dec.{eqb}
@@ -14,7 +14,7 @@ use Rattle.rules.specs.State.{State, powerReset}
 use Rattle.rules.specs.Events.{writes, valueOf, offered, portWrite}
 use Rattle.rules.specs.Codes.{accessCode, isDone}
 use Rattle.rules.specs.StepA.{clears, clrch, rstfifo, withAtn, registersA, hostA, transferA, afterA}
-use Rattle.rules.specs.StepB.{registersB, transferB, applied, edgesOf, afterB}
+use Rattle.rules.specs.StepB.{ackReleased, busReset, reqRisen, busFreed, phaseChanged, afterB}
 use Rattle.rules.specs.StepC.{Settling, conditions, started, turns, settledC}
 use Rattle.rules.specs.StepD.{finished, afterD}
 use Rattle.rules.specs.Answers.{Stepped}
@@ -27,13 +27,14 @@ use Rattle.rules.specs.declared.records.Event.{Event}
 use Rattle.rules.specs.declared.records.Event.the-variants.{PowerReset}
 use Rattle.rules.specs.declared.records.Decoded.{Decoded}
 use Rattle.rules.specs.declared.records.Decoded.the-variants.{Well}
+use Rattle.rules.proofs.InOrder.{b-keeps, acko-stays}
 use Rattle.rules.proofs.Logic.{never, left-true, right-true}
 use Rattle.runs.specs.Comes.{isRefusal, says, mayCome, unlessRefused, along, acksAlong}
 use Rattle.runs.specs.Run.{sentBy}
 use Rattle.runs.specs.Clearing.{switchedOff, bothEmpty, leavesAcko, allOff, mayClear, allClear}
 use Rattle.runs.proofs.Access.{done-code, step-law}
 use Rattle.runs.proofs.Settles.{unsent-settles, settle-still, empty-no-move, empty-no-handshake}
-use Rattle.runs.proofs.Stages.{outbound-stores-none, no-automatic-ack}
+use Rattle.runs.proofs.Stages.{outbound-stores-none, no-automatic-ack, host-B, scsi-B}
 use Rattle.runs.proofs.Cut.{idle-event}
 
 none-of-length : (l : List ℕ) → eqb (length l) 0 ≡ true → l ≡ []
@@ -43,8 +44,8 @@ none-of-length (x ∷ l) h = let n = eqb-true (length (x ∷ l)) 0 h in absurd (
 -- both FIFOs empty and no byte offered: they are empty when settling starts
 module _ (s : State) (e : Event) (none : offered e ≡ []) where
   host-still-empty : s .transfer .host ≡ [] → (afterB s e) .transfer .host ≡ []
-  unfolding afterB applied transferB afterA transferA hostA
-  host-still-empty h = rw (h, none, drop-nil) (go (rstfifo e) (portWrite e))
+  unfolding afterA transferA hostA
+  host-still-empty h = host-B s e ∙ rw (h, none, drop-nil) (go (rstfifo e) (portWrite e))
     where
       go : (a b : Bool) → _≡_ {A = List ℕ} (cond a [] (cond b [] [])) []
       go true b = refl
@@ -52,10 +53,10 @@ module _ (s : State) (e : Event) (none : offered e ≡ []) where
       go false false = refl
 
   scsi-still-empty : s .transfer .scsi ≡ [] → (afterB s e) .registers .dmacntrl0 .write ≡ true → (afterB s e) .transfer .scsi ≡ []
-  unfolding afterB applied transferB afterA transferA
-  scsi-still-empty h w = rw (outbound-stores-none s e w, h) (go (clrch e))
+  unfolding afterA transferA
+  scsi-still-empty h w = scsi-B s e ∙ rw (outbound-stores-none s e w, h) (go (clrch e))
     where
-      go : (a : Bool) → _≡_ {A = List ℕ} (cond a [] []) []
+      go : (a : Bool) → _≡_ {A = List ℕ} (cond a [] [] ++ []) []
       go true = refl
       go false = refl
 
@@ -150,15 +151,22 @@ module _ (s : State) (e : Event) (a : s .registers .scsisig .acko ≡ false) (ke
       (not-true (writes e SCSISIGO && bit (valueOf e) 0) keep) a
 
   acko-B : (afterB s e) .registers .scsisig .acko ≡ false
-  unfolding afterB applied registersB
-  acko-B = rw acko-A (and-false (not ((edgesOf s e) .rstrises || (edgesOf s e) .free)))
+  acko-B = acko-stays s e acko-A
 
 -- without an Automatic ACK, B turns no ACK on
 ack-before : (s : State) (e : Event) → s .registers .sxfrctl0 .spioen ≡ false → (afterB s e) .transfer .ack ≡ true → s .transfer .ack ≡ true
-unfolding afterB applied transferB afterA transferA
-ack-before s e p h =
-    right-true (not ((edgesOf s e) .reqfalls || (edgesOf s e) .rstrises || (edgesOf s e) .free)) (s .transfer .ack)
-    (rw (no-automatic-ack s e p) at h)
+unfolding ackReleased busReset reqRisen busFreed phaseChanged afterA transferA
+ack-before s e p =
+    b-keeps (λ n. n .transfer .ack ≡ true → s .transfer .ack ≡ true)
+    (record {
+      released = λ n h t. absurd (never t);
+      reset = λ n h t. absurd (never t);
+      risen = λ n h. h;
+      counted = λ n ticks h. h;
+      freed = λ n h t. absurd (never t);
+      changed = λ n h. h;
+    })
+    s e (λ h. rw (no-automatic-ack s e p) at h)
 
 module _ (s : State) (o : switchedOff s ≡ true) (a : s .registers .scsisig .acko ≡ false) where
   abbrev Silences : Decoded → Stepped → Type 0

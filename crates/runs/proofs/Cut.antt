@@ -18,7 +18,7 @@ use Rattle.rules.specs.Reads.{readOf, readMapped, valueRead}
 use Rattle.rules.specs.Events.{writes, reads, valueOf}
 use Rattle.rules.specs.Codes.{accessCode, isDone}
 use Rattle.rules.specs.StepA.{registersA, afterA}
-use Rattle.rules.specs.StepB.{registersB, applied, edgesOf, afterB}
+use Rattle.rules.specs.StepB.{afterB}
 use Rattle.rules.specs.StepC.{conditions, started, turns, settledC}
 use Rattle.rules.specs.StepD.{finished, afterD}
 use Rattle.rules.specs.Answers.{Stepped}
@@ -32,6 +32,7 @@ use Rattle.rules.specs.declared.records.Event.{Event}
 use Rattle.rules.specs.declared.records.Event.the-variants.{PowerReset, Write, Read, WordWrite, WordRead, Drive, Ticks}
 use Rattle.rules.specs.declared.records.Decoded.{Decoded}
 use Rattle.rules.specs.declared.records.Decoded.the-variants.{Well, Ill}
+use Rattle.rules.proofs.InOrder.{scsien-stays}
 use Rattle.rules.proofs.Logic.{never, left-true, right-true}
 use Rattle.runs.specs.Comes.{isRefusal, says, mayCome, allCome, along}
 use Rattle.runs.specs.Run.{keepsRun, writeAllowed, runAllows, accepted, sentBy}
@@ -51,11 +52,6 @@ pub record Quiet (w : Bool) (s later : State) (sent : List ℕ) : Type 0 where
   pub same : later .transfer .counter ≡ s .transfer .counter
   pub none : sent ≡ []
 
--- B leaves SCSIEN 0
-off-B : (s : State) (e : Event) → (afterA s e) .registers .sxfrctl0 .scsien ≡ false → (afterB s e) .registers .sxfrctl0 .scsien ≡ false
-unfolding afterB applied registersB
-off-B s e h = rw h (and-false (not ((edgesOf s e) .rstrises)))
-
 -- with SCSIEN 0 after the event no handshake is enabled
 pub off-disables : (s : State) → s .registers .sxfrctl0 .scsien ≡ false → (conditions s) .enabled ≡ false
 unfolding conditions
@@ -70,7 +66,7 @@ idle-event s e h =
 done-quiet : (w : Bool) (s : State) (e : Event) → Spared e → Held w (s .registers) → (afterA s e) .registers .sxfrctl0 .scsien ≡ false → Quiet w s ((done s e) .state) ((done s e) .sent)
 unfolding done afterD finished
 done-quiet w s e p h n =
-    let b = off-B s e n in
+    let b = scsien-stays s e n in
     let i = idle-event s e b in
     record { off = b; held = held-after w s e p h; same = i .counter ∙ counter-before s e p (h .spioen); none = i .none }
 

@@ -14,7 +14,7 @@ use Rattle.rules.specs.Reads.{readOf, readMapped, valueRead}
 use Rattle.rules.specs.Events.{asked, portRead}
 use Rattle.rules.specs.Codes.{noBytes, accessCode, isDone}
 use Rattle.rules.specs.StepA.{transferA, afterA}
-use Rattle.rules.specs.StepB.{transferB, applied, edgesOf, afterB}
+use Rattle.rules.specs.StepB.{afterB}
 use Rattle.rules.specs.StepC.{conditions, started, turns, settledC}
 use Rattle.rules.specs.StepD.{finished, afterD}
 use Rattle.rules.specs.Answers.{Stepped}
@@ -32,25 +32,12 @@ use Rattle.runs.proofs.Access.{Passed, passed, done-code, step-law, com
 use Rattle.runs.proofs.Along.{along-law}
 use Rattle.runs.proofs.Settles.{storedBy, Inbound, inbound-settles}
 use Rattle.runs.proofs.Spared.{Spared, spared}
-use Rattle.runs.proofs.Stages.{Held, held-at-start, held-after, host-inbound}
+use Rattle.runs.proofs.Stages.{Held, held-at-start, held-after, host-B, host-inbound, scsi-B}
 
 -- at a moment of a read run, after the chip took these bytes and the host read those
 pub record ReadMoment (s : State) (tookSoFar readSoFar : List ℕ) : Type 0 where
   pub held : Held false (s .registers)
   pub order : readSoFar ++ (s .transfer .host ++ s .transfer .scsi) ≡ tookSoFar
-
--- before settling the SCSI FIFO has got the byte that a REQ stores
-stored-last : (t : Bool) (l : List ℕ) (b : ℕ) → cond t (l ++ (b ∷ [])) l ≡ l ++ cond t (b ∷ []) []
-stored-last true l b = refl
-stored-last false l b = sym (append-nil l)
-
-scsi-B : (s : State) (e : Event) → (afterB s e) .transfer .scsi ≡ (afterA s e) .transfer .scsi ++ tookAtReq s e
-unfolding afterB applied transferB tookAtReq
-scsi-B s e = stored-last ((edgesOf s e) .stored) ((afterA s e) .transfer .scsi) _
-
-host-B : (s : State) (e : Event) → (afterB s e) .transfer .host ≡ (afterA s e) .transfer .host
-unfolding afterB applied transferB
-host-B s e = refl
 
 -- what an event puts behind the FIFOs' bytes, inbound
 abbrev pub took : State → Event → List ℕ
