@@ -149,8 +149,7 @@ countedReq now = synchronousReq now && not (beyondLimit now)
 -- "else, inbound with offset 0 and the SCSI FIFO not empty sets SYNCERR"
 unfoldable pub lateByte : State → Bool
 lateByte now =
-    countedReq now && ioSeen (now .registers) (now .lines) && eqb (now .transfer .offset) 0
-    && ltb 0 (length (now .transfer .scsi))
+    ioSeen (now .registers) (now .lines) && eqb (now .transfer .offset) 0 && ltb 0 (length (now .transfer .scsi))
 
 -- "and an inbound byte is stored": that byte, the data seen, or none
 unfoldable pub storedByte : State → List ℕ
@@ -184,7 +183,7 @@ reqRisen now =
             scsiperr = parityBad now || k .scsiperr;
             phasechg = k .phasechg;
             reqinit = true;
-            syncerr = lateByte now || k .syncerr;
+            syncerr = (countedReq now && lateByte now) || k .syncerr;
             fwerr = k .fwerr;
           };
       latches = now .latches;

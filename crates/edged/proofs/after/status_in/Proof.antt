@@ -1,5 +1,5 @@
 use borrow.Author.Needs.{needs}
-use Rattle.rules.specs.StepB.{statusB}
+use Rattle.edged.specs.Parts.{statusB}
 use Rattle.edged.proofs.Placed.{status-placed}
 use Rattle.edged.proofs.after.status_in.Statement.{statement}
 use Rattle.edged.proofs.after.status_in.Tie as tie
