@@ -13,7 +13,7 @@ use Rattle.rules.specs.Events.{offered, asked, portRead, reads}
 use Rattle.rules.specs.Codes.{numberOf, isDone, isRefusal}
 use Rattle.rules.specs.Interrupts.{irq}
 use Rattle.rules.specs.Answers.{answerOf, answerBytes}
-use Rattle.rules.specs.Step.{refused, stepDecoded, step, answer}
+use Rattle.rules.specs.Step.{ended, refused, stepDecoded, step, answer}
 use Rattle.rules.specs.declared.codes.Code.{Code}
 use Rattle.rules.specs.declared.codes.Code.the-variants.{Done, Malformed, Absent, Shut, NoRoom, NoBytes, BeyondLimit, TestValue}
 use Rattle.rules.specs.declared.map.Register.{Register}
@@ -113,13 +113,13 @@ module _ (s : State) (x : Exchange) (i : Ranged s) (h : isAnswered x ≡ true �
       go false e = none e
 
   pub code-shown : codeOf x ≡ numberOf ((step s (handed x)) .code)
-  unfolding refused
+  unfolding ended
   code-shown =
       by-answer (λ t. cond t (getD (x .buffer) 0 0 / 32) 1 ≡ numberOf ((step s (cond t (x .bytes) [])) .code))
       (λ e. ap (λ (b : List ℕ). getD b 0 0 / 32) (h e) ∙ answer-code s (x .bytes)) (λ e. rw (empty-refused s) refl)
 
   pub acks-shown : acksOf x ≡ (step s (handed x)) .acks
-  unfolding refused
+  unfolding ended
   acks-shown =
       by-answer (λ t. cond t (getD (x .buffer) 0 0 % 16) 0 ≡ (step s (cond t (x .bytes) [])) .acks)
       (λ e. ap (λ (b : List ℕ). getD b 0 0 % 16) (h e) ∙ answer-acks s (x .bytes) (step-fits s (x .bytes) (i .range) .acks))
@@ -134,7 +134,7 @@ module _ (s : State) (x : Exchange) (i : Ranged s) (h : isAnswered x ≡ true �
 
   -- outbound each ACK sends one byte: the bytes taken are those sent
   pub taken-shown : (step s (handed x)) .acks ≡ length ((step s (handed x)) .sent) → takenOf x ≡ sentBy s (handed x)
-  unfolding refused
+  unfolding ended
   taken-shown =
       by-answer (λ t. (step s (cond t (x .bytes) [])) .acks ≡ length ((step s (cond t (x .bytes) [])) .sent) → take (cond t (getD (x .buffer) 0 0 % 16) 0) (drop 8 (x .buffer)) ≡ (step s (cond t (x .bytes) [])) .sent)
       (λ e p. rw (h e, answer-acks s (x .bytes) (step-fits s (x .bytes) (i .range) .acks), p) (answer-sent s (x .bytes)))
@@ -149,7 +149,7 @@ module _ (s : State) (x : Exchange) (i : Ranged s) (h : isAnswered x ≡ true �
 
   -- a value is shown where the call was answered
   value-shown : isRefusal ((step s (handed x)) .code) ≡ false → valueOf x ≡ (step s (handed x)) .value
-  unfolding refused
+  unfolding ended
   value-shown =
       by-answer (λ t. isRefusal ((step s (cond t (x .bytes) [])) .code) ≡ false → valueOf x ≡ (step s (cond t (x .bytes) [])) .value)
       (λ e q. rw (h e) (answer-value s (x .bytes) (step-bytes s (x .bytes) (i .range) (i .bytes) .value)))

@@ -11,7 +11,7 @@ use borrow.Author.Tests.{eq-eqb}
 use Rattle.rules.specs.State.{State}
 use Rattle.rules.specs.Chips.{view, chipOf}
 use Rattle.rules.specs.Answers.{answerSize}
-use Rattle.rules.specs.Step.{Called, called, refused, step, answer, after, answers}
+use Rattle.rules.specs.Step.{Called, called, ended, refused, step, answer, after, answers}
 use Rattle.rules.specs.declared.chip.Chip.{Chip}
 use Rattle.rules.specs.declared.codes.Code.the-variants.{Malformed}
 use Rattle.rules.proofs.Logic.{never}
@@ -46,7 +46,7 @@ module _ (c : Chip) (k : Call) (i : Ranged (view c)) (made : IsStep c (k .bytes)
       }
 
   with-another : eqb (length (k .before)) answerSize ≡ false → Steps (view c) (exchangeOf k) (k .returned .chip)
-  unfolding called returnedOf refused
+  unfolding called returnedOf ended
   with-another e =
       let b : k .buffer ≡ k .before = made .answer ∙ rw e in
       let r : k .returned .chip ≡ chipOf (view c) = ap (λ (r : Returned). r .chip) (made .returns) ∙ rw e in

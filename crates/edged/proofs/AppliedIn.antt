@@ -6,10 +6,10 @@ use mathlib.Core.List.{List, [], _∷_, _++_}
 use lib.ListN.{set}
 use Rattle.rules.specs.State.{State, Transfer}
 use Rattle.rules.specs.Seen.{rstSeen, selSeen, bsySeen, connected, matched, mismatched, dataSeen}
-use Rattle.rules.specs.StepB.{registersB, transferB, statusB}
+use Rattle.edged.specs.Parts.{registersB, transferB, statusB}
 use Rattle.rules.specs.declared.registers.Registers.{Registers}
 use Rattle.rules.specs.declared.records.Lines.{Lines}
-use Rattle.rules.specs.declared.chip.Edges.{Edges}
+use Rattle.edged.specs.declared.edges.Edges.{Edges}
 use Rattle.image.specs.Image.{imageOf, stateAt, registersAt, linesAt, transferAt, withRegisters, withTransfer, withStatus, withQuiet}
 use Rattle.image.proofs.EightBits.{bit-0, bit-1, bit-2, bit-3, bit-4, bit-5, bit-6, bit-7}
 use Rattle.edged.specs.From.{appliedFrom}

@@ -7,8 +7,9 @@ use lib.Dec.{eqb, leb, ltb}
 use lib.ListN.{length, getD}
 use Rattle.rules.specs.State.{State}
 use Rattle.rules.specs.Seen.{rstSeen, selSeen, bsySeen, connected, matched, path, synchronous, limit}
-use Rattle.rules.specs.StepB.{parityBad, beyondLimit, lateByte, registersB}
-use Rattle.rules.specs.declared.chip.Edges.{Edges}
+use Rattle.rules.specs.StepB.{parityBad, beyondLimit, lateByte}
+use Rattle.edged.specs.Parts.{registersB}
+use Rattle.edged.specs.declared.edges.Edges.{Edges}
 use Rattle.image.specs.Image.{stateAt, IsImage}
 use Rattle.edged.specs.Inbound.{inboundEven}
 use Rattle.edged.specs.From.{rstRisesFrom, reqRisesFrom, synchronousReqFrom, quietFrom, edgesFrom}

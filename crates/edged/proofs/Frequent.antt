@@ -7,13 +7,13 @@ use lib.Dec.{eqb, leb, ltb}
 use lib.ListN.{getD}
 use Rattle.rules.specs.State.{State, Transfer}
 use Rattle.rules.specs.Seen.{mismatched, limit, dataSeen}
-use Rattle.rules.specs.StepB.{parityBad, beyondLimit, lateByte, registersB, transferB, statusB}
+use Rattle.rules.specs.StepB.{parityBad, beyondLimit, lateByte}
 use Rattle.rules.specs.declared.registers.Registers.{Registers}
 use Rattle.rules.specs.declared.records.Lines.{Lines}
-use Rattle.rules.specs.declared.chip.Edges.{Edges}
+use Rattle.edged.specs.declared.edges.Edges.{Edges}
 use Rattle.image.specs.Image.{imageOf, stateAt, registersAt, linesAt, withTransfer, withStatus, withQuiet}
 use Rattle.edged.specs.From.{rstRisesFrom, reqRisesFrom, synchronousReqFrom, quietFrom, edgesFrom, appliedFrom}
-use Rattle.edged.specs.Parts.{storedB, countedB}
+use Rattle.edged.specs.Parts.{registersB, transferB, statusB, storedB, countedB}
 use Rattle.edged.specs.Frequent.{raisedB, phaseB, inboundB, callB, risenB, releasedB, initB, reqB}
 use Rattle.edged.proofs.Laws.{inbound-data}
 use Rattle.edged.proofs.Placed.{offset-of, held-of}

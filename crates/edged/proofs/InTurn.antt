@@ -7,7 +7,8 @@ use lib.Dec.{leb}
 use lib.ListN.{getD, set}
 use Rattle.rules.specs.State.{State}
 use Rattle.rules.specs.Seen.{rstSeen, selSeen, bsySeen, connected}
-use Rattle.rules.specs.StepB.{parityBad, beyondLimit, registersB}
+use Rattle.rules.specs.StepB.{parityBad, beyondLimit}
+use Rattle.edged.specs.Parts.{registersB}
 use Rattle.image.specs.Image.{imageOf, stateAt, registersAt, linesAt, withQuiet}
 use Rattle.edged.specs.Inbound.{inboundEven}
 use Rattle.edged.specs.From.{rstRisesFrom, reqRisesFrom, synchronousReqFrom, quietFrom, edgesFrom, appliedFrom}

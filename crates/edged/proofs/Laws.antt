@@ -4,7 +4,7 @@ use mathlib.Core.Bool.{Bool, true, false, not, _&&_, _||_, and-true, and-false, 
 use lib.Bits.{or-zero-r}
 use Rattle.rules.specs.State.{Transfer}
 use Rattle.rules.specs.Seen.{bsySeen, selSeen, connected, driving, dataDriven, dataSeen, parityDriven, paritySeen, parityEven}
-use Rattle.rules.specs.StepB.{registersB}
+use Rattle.edged.specs.Parts.{registersB}
 use Rattle.rules.specs.declared.registers.Registers.{Registers}
 use Rattle.rules.specs.declared.records.Lines.{Lines}
 use Rattle.edged.specs.Inbound.{inboundEven}

@@ -1,4 +1,4 @@
-pub mod From
+pub mod InOrder
 pub mod Laws
 pub mod EdgesIn
 pub mod Placed

@@ -11,17 +11,16 @@ use lib.Seq.{set-append-left}
 use Rattle.rules.specs.Numbers.{one, padded}
 use Rattle.rules.specs.Registers.{scsiseqOf, scsiseqByte, sxfrctl0Of, sxfrctl0Byte, scsisigOf}
 use Rattle.rules.specs.State.{State}
-use Rattle.rules.specs.StepB.{scsiseqB, sxfrctl0B, scsisigB, registersB, transferB}
 use Rattle.rules.specs.declared.registers.Scsiseq.{Scsiseq}
 use Rattle.rules.specs.declared.registers.Sxfrctl0.{Sxfrctl0}
 use Rattle.rules.specs.declared.registers.Scsisig.{Scsisig}
 use Rattle.rules.specs.declared.registers.Registers.{Registers}
 use Rattle.rules.specs.declared.chip.Status.{Status}
-use Rattle.rules.specs.declared.chip.Edges.{Edges}
+use Rattle.edged.specs.declared.edges.Edges.{Edges}
 use Rattle.image.specs.Image.{imageOf, stateAt, IsImage, headOf, scsisigByte, statusOf, statusByte, withRegisters, withTransfer, withStatus, withQuiet}
 use Rattle.image.proofs.EightBits.{is-one, bit-0, bit-1, bit-2, bit-3, bit-4, bit-5, bit-6, bit-7}
 use Rattle.laws.proofs.Lists.{padded-push, padded-length}
-use Rattle.edged.specs.Parts.{storedB, countedB}
+use Rattle.edged.specs.Parts.{scsiseqB, sxfrctl0B, scsisigB, registersB, transferB, storedB, countedB}
 use Rattle.edged.specs.Room.{Room}
 use Rattle.edged.specs.Stored.{registersStored, byteStored, countStored, statusStored}
 use Rattle.edged.proofs.Laws.{registers-kept}

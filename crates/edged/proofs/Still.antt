@@ -9,8 +9,9 @@ use lib.ListN.{getD, set}
 use borrow.Author.Tests.{eqb-true, leb-true, leb-false, lt-leb}
 use Rattle.rules.specs.State.{State}
 use Rattle.rules.specs.Seen.{rstSeen, selSeen, bsySeen, reqSeen, connected, matched, mismatched, path, synchronous}
-use Rattle.rules.specs.StepB.{parityBad, beyondLimit, lateByte, registersB, transferB, statusB}
-use Rattle.rules.specs.declared.chip.Edges.{Edges}
+use Rattle.rules.specs.StepB.{parityBad, beyondLimit, lateByte}
+use Rattle.edged.specs.Parts.{registersB, transferB, statusB}
+use Rattle.edged.specs.declared.edges.Edges.{Edges}
 use Rattle.rules.proofs.Logic.{left-true, right-true}
 use Rattle.image.specs.Image.{imageOf, stateAt, registersAt, linesAt, withQuiet, IsImage}
 use Rattle.edged.specs.declared.last.Seen.{Seen}

@@ -3,8 +3,9 @@ use Prim.Native.Nat.{ℕ, _+_, min}
 use mathlib.Core.Bool.{Bool, false, not, _&&_, _||_, cond}
 use Rattle.rules.specs.State.{State}
 use Rattle.rules.specs.Seen.{rstSeen, selSeen, bsySeen, ioSeen, reqSeen, matched, mismatched, path, synchronous, dataSeen}
-use Rattle.rules.specs.StepB.{parityBad, beyondLimit, lateByte, registersB, transferB, statusB}
-use Rattle.rules.specs.declared.chip.Edges.{Edges}
+use Rattle.rules.specs.StepB.{parityBad, beyondLimit, lateByte}
+use Rattle.edged.specs.Parts.{registersB, transferB, statusB}
+use Rattle.edged.specs.declared.edges.Edges.{Edges}
 use lib.Dec.{leb}
 
 unfoldable pub rstRisesFrom : Bool → State → Bool

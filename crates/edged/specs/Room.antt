@@ -4,7 +4,7 @@ use mathlib.Core.Path.{_≡_}
 use mathlib.Core.Bool.{true}
 use lib.ListN.{length}
 use Rattle.rules.specs.State.{Transfer}
-use Rattle.rules.specs.declared.chip.Edges.{Edges}
+use Rattle.edged.specs.declared.edges.Edges.{Edges}
 
 -- a REQ that is counted is below 8, and a byte that is stored has a place
 pub record Room (g : Edges) (t : Transfer) : Type 0 where

@@ -6,8 +6,8 @@ use lib.Dec.{eqb}
 use lib.ListN.{getD, set}
 use Rattle.rules.specs.Numbers.{one}
 use Rattle.rules.specs.Registers.{scsiseqOf, scsiseqByte, sxfrctl0Of, sxfrctl0Byte, scsisigOf}
-use Rattle.rules.specs.StepB.{scsiseqB, sxfrctl0B, scsisigB}
 use Rattle.rules.specs.declared.chip.Status.{Status}
+use Rattle.edged.specs.Parts.{scsiseqB, sxfrctl0B, scsisigB}
 use Rattle.image.specs.Image.{scsisigByte, statusOf, statusByte}
 
 -- 340h, 341h and 343h

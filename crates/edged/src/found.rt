@@ -5,7 +5,7 @@ ghost use Prim.Native.Nat.{_+_, min};
 ghost use lib.Dec.{eqb, leb, ltb};
 ghost use lib.ListN.{getD};
 ghost use Rattle.rules.specs.Seen.{rstSeen, selSeen, bsySeen, connected, matched, path, synchronous, limit};
-ghost use Rattle.rules.specs.StepB.{registersB};
+ghost use Rattle.edged.specs.Parts.{registersB};
 ghost use Rattle.image.specs.Image.{registersAt, linesAt};
 ghost use Rattle.edged.specs.Inbound.{inboundEven};
 use image::bus::connected;

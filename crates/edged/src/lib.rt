@@ -4,12 +4,13 @@ ghost use Rattle.rules.specs.Seen.{rstSeen, reqSeen, mismatched};
 ghost use Rattle.image.specs.Image.{registersAt, linesAt, imageOf, stateAt, IsImage};
 ghost use Rattle.edged.specs.From.{edgesFrom, appliedFrom};
 ghost use Rattle.edged.specs.Room.{Room};
+use crate::edges::Edges;
 use crate::last::Before;
 use image::bus::mismatched;
 use image::bus::rst_seen;
-use rules::chip::Edges;
 
 mod after;
+mod edges;
 mod found;
 pub mod last;
 pub mod since;

@@ -47,7 +47,7 @@ latches-masked b0 r0 b1 r1 status raised k h =
     simp (m .ready, m .reset, m .free, m .parity, m .phase, m .req, or-false)
 
 -- one latch, where neither its enable nor its status rises
-steady : (k e t : Bool) → k ≡ latched k e e t t
+steady : (k e t : Bool) → k ≡ latched (record { kept = k; enable = e; enabledBefore = e; status = t; raised = t })
 steady true e t = refl
 steady false false t = refl
 steady false true false = refl

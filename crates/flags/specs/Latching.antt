@@ -11,12 +11,60 @@ use Rattle.rules.specs.declared.chip.Latches.{Latches}
 unfoldable pub latchesFrom : Simode0 → Simode1 → Simode0 → Simode1 → Status → Status → Latches → Latches
 latchesFrom b0 b1 r0 r1 status raised k =
     record {
-      spiordy = latched (k .spiordy) (r0 .enspiordy) (b0 .enspiordy) (status .spiordy) (raised .spiordy);
-      scsirsti = latched (k .scsirsti) (r1 .enscsirst) (b1 .enscsirst) (status .scsirsti) (raised .scsirsti);
-      busfree = latched (k .busfree) (r1 .enbusfree) (b1 .enbusfree) (status .busfree) (raised .busfree);
-      scsiperr = latched (k .scsiperr) (r1 .enscsiperr) (b1 .enscsiperr) (status .scsiperr) (raised .scsiperr);
-      phasechg = latched (k .phasechg) (r1 .enphasechg) (b1 .enphasechg) (status .phasechg) (raised .phasechg);
-      reqinit = latched (k .reqinit) (r1 .enreqinit) (b1 .enreqinit) (status .reqinit) (raised .reqinit);
+      spiordy =
+          latched
+          (record {
+            kept = k .spiordy;
+            enable = r0 .enspiordy;
+            enabledBefore = b0 .enspiordy;
+            status = status .spiordy;
+            raised = raised .spiordy;
+          });
+      scsirsti =
+          latched
+          (record {
+            kept = k .scsirsti;
+            enable = r1 .enscsirst;
+            enabledBefore = b1 .enscsirst;
+            status = status .scsirsti;
+            raised = raised .scsirsti;
+          });
+      busfree =
+          latched
+          (record {
+            kept = k .busfree;
+            enable = r1 .enbusfree;
+            enabledBefore = b1 .enbusfree;
+            status = status .busfree;
+            raised = raised .busfree;
+          });
+      scsiperr =
+          latched
+          (record {
+            kept = k .scsiperr;
+            enable = r1 .enscsiperr;
+            enabledBefore = b1 .enscsiperr;
+            status = status .scsiperr;
+            raised = raised .scsiperr;
+          });
+      phasechg =
+          latched
+          (record {
+            kept = k .phasechg;
+            enable = r1 .enphasechg;
+            enabledBefore = b1 .enphasechg;
+            status = status .phasechg;
+            raised = raised .phasechg;
+          });
+      reqinit =
+          latched
+          (record {
+            kept = k .reqinit;
+            enable = r1 .enreqinit;
+            enabledBefore = b1 .enreqinit;
+            status = status .reqinit;
+            raised = raised .reqinit;
+          });
     }
 
 -- is the interrupt of any latch enabled?

@@ -52,7 +52,7 @@ pub fn latches_written_in(m: &mut [u8; 196], offset: u8, value: u8)
 
 // "A latch sets when its status rises ... while enabled, or when the enable rises while status is 1."
 fn sets(enable: bool, before: bool, status: bool, raised: bool) -> bool
-    ensures { λ b. ⌜ b ≡ latched false enable before status raised ⌝ }
+    ensures { λ b. ⌜ b ≡ latched (record { kept = false; enable = enable; enabledBefore = before; status = status; raised = raised }) ⌝ }
 {
     enable & ((raised & !status) | (status & !before))
 }

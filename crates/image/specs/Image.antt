@@ -9,6 +9,7 @@ use Rattle.rules.specs.Numbers.{bit, field, one, byteOf, padded}
 use Rattle.rules.specs.Counter.{counterByte}
 use Rattle.rules.specs.Registers.{scsiseqOf, scsiseqByte, sxfrctl0Of, sxfrctl0Byte, sxfrctl1Of, sxfrctl1Byte, scsisigOf, scsirateOf, scsiidOf, simode0Of, simode0Byte, simode1Of, simode1Byte, dmacntrl0Of, dmacntrl0Byte, dmacntrl1Of, dmacntrl1Byte}
 use Rattle.rules.specs.State.{State, Transfer}
+pub use Rattle.rules.specs.Changed.{withLines, withRegisters, withTransfer, withStatus, withLatches, withStack, withQuiet, withIdentity}
 use Rattle.rules.specs.Ranges.{InRange, InBytes}
 use Rattle.rules.specs.declared.registers.Scsisig.{Scsisig}
 use Rattle.rules.specs.declared.registers.Scsirate.{Scsirate}
@@ -17,7 +18,6 @@ use Rattle.rules.specs.declared.registers.Registers.{Registers}
 use Rattle.rules.specs.declared.records.Lines.{Lines}
 use Rattle.rules.specs.declared.chip.Status.{Status}
 use Rattle.rules.specs.declared.chip.Latches.{Latches}
-use Rattle.rules.specs.declared.chip.Stack.{Stack}
 
 -- bytes that no register read gives: 343h and 344h, 345h as written
 abbrev pub scsisigByte : Scsisig → ℕ
@@ -167,108 +167,3 @@ pub record IsImage (m : List ℕ) : Type 0 where
   pub packed : m ≡ imageOf (stateAt m)
   pub range : InRange (stateAt m)
   pub bytes : InBytes (stateAt m)
-
--- the state with one component another
-abbrev pub withLines : Lines → State → State
-withLines x s =
-    record {
-      lines = x;
-      registers = s .registers;
-      transfer = s .transfer;
-      status = s .status;
-      latches = s .latches;
-      stack = s .stack;
-      quiet = s .quiet;
-      identity = s .identity;
-    }
-
-abbrev pub withRegisters : Registers → State → State
-withRegisters x s =
-    record {
-      lines = s .lines;
-      registers = x;
-      transfer = s .transfer;
-      status = s .status;
-      latches = s .latches;
-      stack = s .stack;
-      quiet = s .quiet;
-      identity = s .identity;
-    }
-
-abbrev pub withTransfer : Transfer → State → State
-withTransfer x s =
-    record {
-      lines = s .lines;
-      registers = s .registers;
-      transfer = x;
-      status = s .status;
-      latches = s .latches;
-      stack = s .stack;
-      quiet = s .quiet;
-      identity = s .identity;
-    }
-
-abbrev pub withStatus : Status → State → State
-withStatus x s =
-    record {
-      lines = s .lines;
-      registers = s .registers;
-      transfer = s .transfer;
-      status = x;
-      latches = s .latches;
-      stack = s .stack;
-      quiet = s .quiet;
-      identity = s .identity;
-    }
-
-abbrev pub withLatches : Latches → State → State
-withLatches x s =
-    record {
-      lines = s .lines;
-      registers = s .registers;
-      transfer = s .transfer;
-      status = s .status;
-      latches = x;
-      stack = s .stack;
-      quiet = s .quiet;
-      identity = s .identity;
-    }
-
-abbrev pub withStack : Stack → State → State
-withStack x s =
-    record {
-      lines = s .lines;
-      registers = s .registers;
-      transfer = s .transfer;
-      status = s .status;
-      latches = s .latches;
-      stack = x;
-      quiet = s .quiet;
-      identity = s .identity;
-    }
-
-abbrev pub withQuiet : ℕ → State → State
-withQuiet x s =
-    record {
-      lines = s .lines;
-      registers = s .registers;
-      transfer = s .transfer;
-      status = s .status;
-      latches = s .latches;
-      stack = s .stack;
-      quiet = x;
-      identity = s .identity;
-    }
-
-abbrev pub withIdentity : ℕ → State → State
-withIdentity x s =
-    record {
-      lines = s .lines;
-      registers = s .registers;
-      transfer = s .transfer;
-      status = s .status;
-      latches = s .latches;
-      stack = s .stack;
-      quiet = s .quiet;
-      identity = x;
-    }

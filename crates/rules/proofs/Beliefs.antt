@@ -1,7 +1,7 @@
 -- Document 01, "Beliefs to rule out": each false belief with the fact that rules it out.
-use mathlib.Core.Path.{_≡_, refl, sym, _∙_, ap}
+use mathlib.Core.Path.{_≡_, refl, sym, _∙_, ap, ap₂}
 use mathlib.Core.Bool.{Bool, true, false, not, _&&_, _||_, cond, and-not-self, and-false, Bool·beq}
-use mathlib.Core.List.{List, [], _∷_, _++_, append-assoc}
+use mathlib.Core.List.{List, [], _∷_, _++_, append-assoc, append-nil}
 use Prim.Native.Nat.{ℕ, _+_, _/_, _%_, _≤_}
 use native.Mathlib.Omega.{arith}
 use lib.Dec.{ltb}
@@ -13,7 +13,7 @@ use Rattle.rules.specs.Interrupts.{instat, irq}
 use Rattle.rules.specs.Events.{offered, asked, portWrite, portRead, wide, writes}
 use Rattle.rules.specs.Codes.{noRoom, accessCode}
 use Rattle.rules.specs.StepA.{clrch, clrstcnt, rstfifo, hostA, counterA, transferA, registersA, afterA}
-use Rattle.rules.specs.StepB.{edges, edgesOf, rstRises, reqRises, synchronousReq, registersB, transferB, applied, afterB}
+use Rattle.rules.specs.StepB.{ackReleased, afterReqFalls, rstRises, busReset, afterRstRises, reqRises, reqRisen, busFreed, phaseChanged, afterB, atReq}
 use Rattle.rules.specs.StepC.{Settling, conditions, canMove, move, canHandshake, handshake, settle, turns, started, settledC}
 use Rattle.rules.specs.StepD.{finished, afterD}
 use Rattle.rules.specs.Answers.{answerOf}
@@ -26,6 +26,7 @@ use Rattle.rules.specs.declared.records.Lines.{Lines}
 use Rattle.rules.specs.declared.records.Event.{Event}
 use Rattle.rules.specs.declared.records.Event.the-variants.{WordWrite, Drive}
 use Rattle.rules.proofs.Computes.{computes}
+use Rattle.rules.proofs.InOrder.{Keeps, falls-keeps, last-keeps, ioexp-keeps, Apart, apartOf, b-leaves, req-leaves, scsi-b}
 use Rattle.rules.proofs.Logic.{never, left-true, right-true, cond-case}
 use Rattle.rules.proofs.Refusals.{done-passed}
 use Rattle.rules.proofs.Settling.{settle-keeps}
@@ -107,17 +108,7 @@ unfolding noRoom offered afterA transferA hostA rstfifo writes portWrite
 word-whole s word e =
     record { room = ltb-false 128 (length (s .transfer .host) + 2) (done-passed s (WordWrite word) e .room); stored = refl }
 
--- "A bus reset emptying the FIFOs.": RST is still seen after B, so nothing is matched
-rst-unmatched : (reset bad free : Bool) (r : Registers) (l : Lines) → rstSeen r l ≡ true → matched (registersB reset bad free r) l ≡ false
-unfolding matched connected rstSeen registersB
-rst-unmatched reset bad free r l h = rw (h, and-false)
-
--- IOEXP is 0 after a reset: inbound there is no path
-reset-path : (bad free : Bool) (r : Registers) → r .dmacntrl0 .write ≡ false → path (registersB true bad free r) ≡ false
-unfolding path registersB
-reset-path bad free r h = rw (h, and-false)
-
--- nothing is sent, the counter stays, and the bytes stay in order: outbound SCSI FIFO then host FIFO, inbound each where it was
+-- "A bus reset emptying the FIFOs.": nothing is sent, the counter stays, and the bytes stay in order: outbound SCSI FIFO then host FIFO, inbound each where it was
 pub record Kept (outbound : Bool) (t : Transfer) (s : Settling) : Type 0 where
   pub sent : s .sent ≡ []
   pub counter : s .transfer .counter ≡ t .counter
@@ -138,36 +129,72 @@ module _ (c : Conditions) (t : Transfer) where
   unfolding canHandshake
   kept-settles shut off = settle-keeps (Kept (c .outbound) t) c (kept-move shut) (λ s h k. absurd (never (sym off ∙ left-true (c .enabled) _ h)))
 
-reset-seen : (s : State) (e : Event) → (edgesOf s e) .rstrises ≡ true → rstSeen ((afterA s e) .registers) ((afterA s e) .lines) ≡ true
-unfolding edgesOf edges rstRises
-reset-seen s e h = left-true (rstSeen ((afterA s e) .registers) ((afterA s e) .lines)) _ h
+-- a state in which RST is seen is not matched; and it is seen throughout B
+rst-unmatched : (r : Registers) (l : Lines) → rstSeen r l ≡ true → matched r l ≡ false
+unfolding matched connected
+rst-unmatched r l h = rw (h, and-false)
 
-reset-stores : (s : State) (e : Event) → (edgesOf s e) .rstrises ≡ true → (edgesOf s e) .stored ≡ false
-unfolding edgesOf edges synchronousReq reqRises
-reset-stores s e h = rw (reset-seen s e h, and-false)
+rst-by : (n : State) (a : Apart) → apartOf n ≡ a → rstSeen (n .registers) (n .lines) ≡ (a .lines .rst || a .scsirsto)
+unfolding rstSeen
+rst-by n a h = ap (λ (x : Apart). x .lines .rst || x .scsirsto) h
 
-reset-start : (s : State) (e : Event) → (edgesOf s e) .rstrises ≡ true → Kept ((afterA s e) .registers .dmacntrl0 .write) ((afterA s e) .transfer) (started (afterB s e))
-unfolding started afterB applied transferB
-reset-start s e h = record { sent = refl; counter = refl; bytes = rw (reset-stores s e h) (go ((afterA s e) .registers .dmacntrl0 .write)) }
-  where
-    t : Transfer
-    t = (afterA s e) .transfer
+module _ (s : State) (e : Event) (rises : rstRises s (afterA s e) ≡ true) where
+  rst-after-a : rstSeen ((afterA s e) .registers) ((afterA s e) .lines) ≡ true
+  unfolding rstRises
+  rst-after-a = left-true (rstSeen ((afterA s e) .registers) ((afterA s e) .lines)) _ rises
 
-    go : (o : Bool) → cond o (t .scsi ++ t .host ≡ t .scsi ++ t .host) ((t .scsi ≡ t .scsi) × (t .host ≡ t .host))
-    go true = refl
-    go false = (refl, refl)
+  rst-at-req : rstSeen ((atReq s e) .registers) ((atReq s e) .lines) ≡ true
+  rst-at-req = rst-by (atReq s e) _ (req-leaves s e) ∙ sym (rst-by (afterA s e) _ refl) ∙ rst-after-a
 
-reset-idle : (s : State) (e : Event) → (edgesOf s e) .rstrises ≡ true → (conditions (afterB s e)) .enabled ≡ false
-unfolding conditions afterB applied
-reset-idle s e h =
-    rw (rst-unmatched ((edgesOf s e) .rstrises) ((edgesOf s e) .paritybad) ((edgesOf s e) .free) ((afterA s e) .registers) ((afterA s e) .lines) (reset-seen s e h), and-false)
+  rst-after-b : rstSeen ((afterB s e) .registers) ((afterB s e) .lines) ≡ true
+  rst-after-b = rst-by (afterB s e) _ (b-leaves s e) ∙ sym (rst-by (afterA s e) _ refl) ∙ rst-after-a
 
-reset-shut : (s : State) (e : Event) → (edgesOf s e) .rstrises ≡ true → (conditions (afterB s e)) .outbound ≡ false → (conditions (afterB s e)) .path ≡ false
-unfolding conditions afterB applied registersB
-reset-shut s e h o = rw h (reset-path ((edgesOf s e) .paritybad) ((edgesOf s e) .free) ((afterA s e) .registers) o)
+  -- no REQ rises with RST seen, so no byte is stored
+  stores-none : (afterB s e) .transfer .scsi ≡ (afterA s e) .transfer .scsi
+  unfolding reqRises
+  stores-none = scsi-b s e ∙ rw (rst-at-req, and-false) (append-nil ((afterA s e) .transfer .scsi))
+
+  -- 343h is 0 after the reset, and IOEXP with it
+  reset-at-req : (atReq s e) .registers .scsisig .ioexp ≡ false
+  unfolding atReq afterRstRises ackReleased busReset rstRises
+  reset-at-req = rw (still-rises ∙ rises)
+    where
+      still-rises : rstRises s (afterReqFalls s (afterA s e)) ≡ rstRises s (afterA s e)
+      still-rises = falls-keeps (λ n. rstRises s n ≡ rstRises s (afterA s e)) s (λ n h. h) (afterA s e) refl
+
+  ioexp-after-b : (afterB s e) .registers .scsisig .ioexp ≡ false
+  ioexp-after-b = last-keeps (λ n. n .registers .scsisig .ioexp ≡ false) ioexp-keeps s e reset-at-req
+
+  host-same : (afterB s e) .transfer .host ≡ (afterA s e) .transfer .host
+  host-same = ap (λ (a : Apart). a .host) (b-leaves s e)
+
+  reset-start : (outbound : Bool) → Kept outbound ((afterA s e) .transfer) (started (afterB s e))
+  unfolding started
+  reset-start outbound =
+      record { sent = refl; counter = ap (λ (a : Apart). a .counter) (b-leaves s e); bytes = go outbound }
+    where
+      t : Transfer
+      t = (afterA s e) .transfer
+
+      u : Transfer
+      u = (afterB s e) .transfer
+
+      go : (o : Bool) → cond o (u .scsi ++ u .host ≡ t .scsi ++ t .host) ((u .scsi ≡ t .scsi) × (u .host ≡ t .host))
+      go true = ap₂ (λ (x y : List ℕ). x ++ y) stores-none host-same
+      go false = (stores-none, host-same)
+
+  reset-idle : (conditions (afterB s e)) .enabled ≡ false
+  unfolding conditions
+  reset-idle = rw (rst-unmatched ((afterB s e) .registers) ((afterB s e) .lines) rst-after-b, and-false)
+
+  reset-shut : (conditions (afterB s e)) .outbound ≡ false → (conditions (afterB s e)) .path ≡ false
+  unfolding conditions path
+  reset-shut o = rw (o, ioexp-after-b, and-false)
 
 -- at a bus reset B leaves the FIFOs and the counter, and C sends nothing and loses nothing
-pub bus-reset-keeps : (s : State) (e : Event) → (edgesOf s e) .rstrises ≡ true → Kept ((afterA s e) .registers .dmacntrl0 .write) ((afterA s e) .transfer) (settledC s e)
-unfolding settledC conditions afterB applied registersB
+pub bus-reset-keeps : (s : State) (e : Event) → rstRises s (afterA s e) ≡ true → Kept ((afterA s e) .registers .dmacntrl0 .write) ((afterA s e) .transfer) (settledC s e)
+unfolding settledC conditions
 bus-reset-keeps s e h =
-    kept-settles (conditions (afterB s e)) ((afterA s e) .transfer) (reset-shut s e h) (reset-idle s e h) turns (started (afterB s e)) (reset-start s e h)
+    let b = afterB s e in
+    rw (sym (ap (λ (a : Apart). a .control .write) (b-leaves s e)))
+    (kept-settles (conditions b) ((afterA s e) .transfer) (reset-shut s e h) (reset-idle s e h) turns (started b) (reset-start s e h (b .registers .dmacntrl0 .write)))

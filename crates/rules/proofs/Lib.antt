@@ -1,5 +1,6 @@
 pub mod Computes
 pub mod Logic
+pub mod InOrder
 pub mod Marked
 pub mod Ranges
 pub mod Rest

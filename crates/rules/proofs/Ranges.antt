@@ -22,12 +22,15 @@ use Rattle.rules.specs.Interrupts.{phasemis, instat, irq}
 use Rattle.rules.specs.Reads.{scsisigi, scsibus, sstat0, sstat1, sstat2, sstat3, sstat4, dmastat, idBytes, readOf, readMapped, valueRead}
 use Rattle.rules.specs.Codes.{noRoom, accessCode, refusedValue, isDone}
 use Rattle.rules.specs.StepA.{clrstcnt, clrch, rstfifo, automaticAck, registersA, hostA, counterA, transferA, stackA, identityA, afterA}
-use Rattle.rules.specs.StepB.{rstRises, synchronousReq, beyondLimit, registersB, quietAfter, edges, transferB, applied, edgesOf, afterB}
+use Rattle.rules.specs.StepB.{ackReleased, registersWith, offsetCleared, busReset, beyondLimit, countedReq, synchronousReq, storedByte, reqRisen, quietAfter, busFreed, phaseChanged, afterB}
 use Rattle.rules.specs.StepC.{Settling, conditions, canMove, move, canHandshake, storedBy, handshake, settle, turns, started, settledC}
 use Rattle.rules.specs.StepD.{finished, afterD}
 use Rattle.rules.specs.Answers.{Stepped, controlDriven, answerOf, answerBytes}
-use Rattle.rules.specs.Step.{refused, done, access, stepEvent, stepDecoded, step, answer, after}
+use Rattle.rules.specs.Step.{ended, done, access, stepEvent, stepDecoded, step, answer, after}
 use Rattle.rules.specs.Ranges.{EventFits, DecodedFits, TransferFits, RegistersFit, StackFits, InRange, Bytes, TransferBytes, RegistersBytes, InBytes}
+use Rattle.rules.specs.declared.registers.Scsiseq.{Scsiseq}
+use Rattle.rules.specs.declared.registers.Sxfrctl0.{Sxfrctl0}
+use Rattle.rules.specs.declared.registers.Scsisig.{Scsisig}
 use Rattle.rules.specs.declared.registers.Scsirate.{Scsirate}
 use Rattle.rules.specs.declared.registers.Scsiid.{Scsiid}
 use Rattle.rules.specs.declared.registers.Registers.{Registers}
@@ -42,10 +45,10 @@ use Rattle.rules.specs.declared.records.Decoded.{Decoded}
 use Rattle.rules.specs.declared.records.Decoded.the-variants.{Well, Ill}
 use Rattle.rules.specs.declared.codes.Code.{Code}
 use Rattle.rules.specs.declared.codes.Code.the-variants.{Done, Malformed, Absent, Shut, NoRoom, NoBytes, BeyondLimit, TestValue}
-use Rattle.rules.specs.declared.chip.Edges.{Edges}
 use Rattle.rules.specs.declared.chip.Conditions.{Conditions}
 use Rattle.rules.specs.declared.chip.Stack.{Stack}
 use Rattle.rules.proofs.Logic.{never, left-true, right-true, cond-case}
+use Rattle.rules.proofs.InOrder.{Keeps, b-keeps}
 use Rattle.rules.proofs.Refusals.{eight-codes, done-passed}
 use Rattle.rules.proofs.Rest.{move-inbound, move-full, handshake-full, Report, settling-reports}
 use Rattle.rules.proofs.Settling.{settle-keeps}
@@ -312,80 +315,134 @@ stored-room true false true true e = sym e
 stored-room true false false true e = sym e
 stored-room false a i true e = sym e
 
-pub offset-room : (last now : State) (ticks : ℕ) → (edges last now ticks) .counted ≡ true → now .transfer .offset < 8
-unfolding edges beyondLimit limit
-offset-room last now ticks e =
-    omega (arith, leb-false (limit (now .registers)) (now .transfer .offset) (counted-room (synchronousReq last now) (leb (limit (now .registers)) (now .transfer .offset)) _ e))
+module _ (now : State) where
+  offset-room : countedReq now ≡ true → now .transfer .offset < 8
+  unfolding countedReq beyondLimit limit
+  offset-room e =
+      omega (arith, leb-false (limit (now .registers)) (now .transfer .offset) (counted-room (synchronousReq now) (leb (limit (now .registers)) (now .transfer .offset)) _ e))
 
-pub scsi-room : (last now : State) (ticks : ℕ) → (edges last now ticks) .stored ≡ true → length (now .transfer .scsi) < 8
-unfolding edges beyondLimit
-scsi-room last now ticks e =
-    leb-false 8 (length (now .transfer .scsi)) (stored-room (synchronousReq last now) (leb (limit (now .registers)) (now .transfer .offset)) (ioSeen (now .registers) (now .lines)) (leb 8 (length (now .transfer .scsi))) e)
+  scsi-room : (countedReq now && ioSeen (now .registers) (now .lines)) ≡ true → length (now .transfer .scsi) < 8
+  unfolding countedReq beyondLimit
+  scsi-room e =
+      leb-false 8 (length (now .transfer .scsi)) (stored-room (synchronousReq now) (leb (limit (now .registers)) (now .transfer .offset)) (ioSeen (now .registers) (now .lines)) (leb 8 (length (now .transfer .scsi))) e)
 
--- B, by component
-quiet-b : (last now : State) (ticks : ℕ) → (edges last now ticks) .quiet ≤ 8
-unfolding edges quietAfter
-quiet-b last now ticks =
-    let r = registersB (rstRises last now) false false (now .registers) in
-    cond-case (λ n. n ≤ 8) (bsySeen r (now .lines) || selSeen r (now .lines)) _ _ (λ h. omega arith) (λ h. omega arith)
+-- B, by its changes: the registers, and the data path
+registers-with : (q : Scsiseq) (x : Sxfrctl0) (g : Scsisig) (r : Registers) → RegistersFit r → RegistersFit (registersWith q x g r)
+registers-with q x g r i = record { sxfr = i .sxfr; sofs = i .sofs; oid = i .oid; tid = i .tid }
 
-registers-b : (reset bad free : Bool) (r : Registers) → RegistersFit r → RegistersFit (registersB reset bad free r)
-unfolding registersB
-registers-b reset bad free r i =
-    record { sxfr = i .sxfr; sofs = i .sofs; oid = i .oid; tid = i .tid }
+registers-bytes-with : (q : Scsiseq) (x : Sxfrctl0) (g : Scsisig) (r : Registers) → RegistersBytes r → RegistersBytes (registersWith q x g r)
+registers-bytes-with q x g r i = record { scsidat = i .scsidat; brstcntrl = i .brstcntrl }
 
-transfer-b : (g : Edges) (byte : ℕ) (t : Transfer) → (g .counted ≡ true → t .offset < 8) → (g .stored ≡ true → length (t .scsi) < 8) → TransferFits t → TransferFits (transferB g byte t)
-unfolding transferB
-transfer-b g byte t up room i =
+offset-cleared : (t : Transfer) → TransferFits t → TransferFits (offsetCleared t)
+offset-cleared t i = record { host = i .host; scsi = i .scsi; counter = i .counter; offset = omega arith }
+
+module _ (now : State) where
+  transfer-risen : TransferFits (now .transfer) → TransferFits ((reqRisen now) .transfer)
+  unfolding reqRisen storedByte
+  transfer-risen i =
+      record {
+        host = i .host;
+        scsi =
+            cond-case (λ (l : List ℕ). length (now .transfer .scsi ++ l) ≤ 8) (countedReq now && ioSeen (now .registers) (now .lines)) _ _
+            (λ e. simp length-append (omega (arith, scsi-room now e))) (λ e. simp length-append (omega (arith, i .scsi)));
+        counter = i .counter;
+        offset = cond-case (λ n. n ≤ 8) (countedReq now) _ _ (λ e. omega (arith, offset-room now e)) (λ e. i .offset);
+      }
+
+  bytes-risen : InBytes now → Bytes ((reqRisen now) .transfer .scsi)
+  unfolding reqRisen storedByte
+  bytes-risen i =
+      let seen = data-seen-fits (now .registers) (now .lines) (now .transfer) (i .lines) (i .registers) (i .transfer) in
+      bytes-append (now .transfer .scsi) (storedByte now) (i .transfer .scsi)
+      (cond-case Bytes (countedReq now && ioSeen (now .registers) (now .lines)) _ _ (λ e. (seen, tt)) (λ e. tt))
+
+  quiet-fits : (ticks : ℕ) → quietAfter ticks now ≤ 8
+  unfolding quietAfter
+  quiet-fits ticks =
+      cond-case (λ n. n ≤ 8) (bsySeen (now .registers) (now .lines) || selSeen (now .registers) (now .lines)) _ _
+      (λ h. omega arith) (λ h. omega arith)
+
+range-keeps : Keeps InRange
+unfolding ackReleased busReset reqRisen busFreed phaseChanged
+range-keeps =
     record {
-      host = i .host;
-      scsi = cond-case (λ (l : List ℕ). length l ≤ 8) (g .stored) _ _ (λ e. simp length-append (omega (arith, room e))) (λ e. i .scsi);
-      counter = i .counter;
-      offset =
-          cond-case (λ n. n ≤ 8) (g .rstrises || g .free) _ _ (λ e. omega arith)
-          (λ e. cond-case (λ n. n ≤ 8) (g .counted) _ _ (λ q. omega (arith, up q)) (λ q. i .offset));
+      released =
+          λ n i.
+          record {
+            registers = i .registers;
+            transfer = record { host = i .transfer .host; scsi = i .transfer .scsi; counter = i .transfer .counter; offset = i .transfer .offset };
+            stack = i .stack;
+            quiet = i .quiet;
+            identity = i .identity;
+          };
+      reset =
+          λ n i.
+          record {
+            registers = registers-with _ _ _ (n .registers) (i .registers);
+            transfer = offset-cleared (n .transfer) (i .transfer);
+            stack = i .stack;
+            quiet = i .quiet;
+            identity = i .identity;
+          };
+      risen =
+          λ n i.
+          record {
+            registers = registers-with _ _ _ (n .registers) (i .registers);
+            transfer = transfer-risen n (i .transfer);
+            stack = i .stack;
+            quiet = i .quiet;
+            identity = i .identity;
+          };
+      counted =
+          λ n ticks i.
+          record { registers = i .registers; transfer = i .transfer; stack = i .stack; quiet = quiet-fits n ticks; identity = i .identity };
+      freed =
+          λ n i.
+          record {
+            registers = registers-with _ _ _ (n .registers) (i .registers);
+            transfer = offset-cleared (n .transfer) (i .transfer);
+            stack = i .stack;
+            quiet = i .quiet;
+            identity = i .identity;
+          };
+      changed =
+          λ n i.
+          record { registers = i .registers; transfer = i .transfer; stack = i .stack; quiet = i .quiet; identity = i .identity };
     }
 
-transfer-bytes-b : (g : Edges) (byte : ℕ) (t : Transfer) → byte < 256 → TransferBytes t → TransferBytes (transferB g byte t)
-unfolding transferB
-transfer-bytes-b g byte t h i =
+bytes-keeps : Keeps InBytes
+unfolding ackReleased busReset reqRisen busFreed phaseChanged
+bytes-keeps =
     record {
-      last = i .last;
-      host = i .host;
-      scsi = cond-case Bytes (g .stored) _ _ (λ e. bytes-append (t .scsi) (byte ∷ []) (i .scsi) (h, tt)) (λ e. i .scsi);
-    }
-
-applied-fits : (last now : State) (ticks : ℕ) → InRange now → InRange (applied (edges last now ticks) last now)
-unfolding applied
-applied-fits last now ticks i =
-    let g = edges last now ticks in
-    record {
-      registers = registers-b (g .rstrises) (g .paritybad) (g .free) (now .registers) (i .registers);
-      transfer =
-          transfer-b g (dataSeen (now .registers) (now .lines) (now .transfer)) (now .transfer)
-          (offset-room last now ticks) (scsi-room last now ticks) (i .transfer);
-      stack = i .stack;
-      quiet = quiet-b last now ticks;
-      identity = i .identity;
+      released =
+          λ n i.
+          let t = i .transfer in
+          record { lines = i .lines; registers = i .registers; transfer = record { last = t .last; host = t .host; scsi = t .scsi }; stack = i .stack };
+      reset =
+          λ n i.
+          let t = i .transfer in
+          let registers = registers-bytes-with _ _ _ (n .registers) (i .registers) in
+          record { lines = i .lines; registers = registers; transfer = record { last = t .last; host = t .host; scsi = t .scsi }; stack = i .stack };
+      risen =
+          λ n i.
+          let t = i .transfer in
+          let registers = registers-bytes-with _ _ _ (n .registers) (i .registers) in
+          record { lines = i .lines; registers = registers; transfer = record { last = t .last; host = t .host; scsi = bytes-risen n i }; stack = i .stack };
+      counted = λ n ticks i. record { lines = i .lines; registers = i .registers; transfer = i .transfer; stack = i .stack };
+      freed =
+          λ n i.
+          let t = i .transfer in
+          let registers = registers-bytes-with _ _ _ (n .registers) (i .registers) in
+          record { lines = i .lines; registers = registers; transfer = record { last = t .last; host = t .host; scsi = t .scsi }; stack = i .stack };
+      changed = λ n i. record { lines = i .lines; registers = i .registers; transfer = i .transfer; stack = i .stack };
     }
 
 -- after B
 after-b : (s : State) (e : Event) → InRange (afterA s e) → InRange (afterB s e)
-unfolding edgesOf afterB
-after-b s e i = applied-fits s (afterA s e) (ticksOf e) i
+after-b = b-keeps InRange range-keeps
 
 pub bytes-after-b : (s : State) (e : Event) → InBytes (afterA s e) → InBytes (afterB s e)
-unfolding afterB applied registersB
-bytes-after-b s e i =
-    let a = afterA s e in
-    record {
-      lines = i .lines;
-      registers = record { scsidat = i .registers .scsidat; brstcntrl = i .registers .brstcntrl };
-      transfer =
-          transfer-bytes-b (edgesOf s e) (dataSeen (a .registers) (a .lines) (a .transfer)) (a .transfer)
-          (data-seen-fits (a .registers) (a .lines) (a .transfer) (i .lines) (i .registers) (i .transfer)) (i .transfer);
-      stack = i .stack;
-    }
+bytes-after-b = b-keeps InBytes bytes-keeps
 
 -- settling keeps the data path in range
 module _ (c : Conditions) (s : Settling) where
@@ -617,13 +674,13 @@ pub record StepBytes (r : Stepped) : Type 0 where
   pub value : r .value < 65536
   pub sent : Bytes (r .sent)
 
-refused-fits : (s : State) (code : Code) (value : ℕ) → InRange s → StepFits (refused s code value)
-unfolding refused
-refused-fits s code value i = record { state = i; moves = omega arith; acks = omega arith; sent = omega arith }
+ended-fits : (s : State) (code : Code) (value : ℕ) → InRange s → StepFits (ended s code value)
+unfolding ended
+ended-fits s code value i = record { state = i; moves = omega arith; acks = omega arith; sent = omega arith }
 
-refused-bytes : (s : State) (code : Code) (value : ℕ) → value < 65536 → InBytes s → StepBytes (refused s code value)
-unfolding refused
-refused-bytes s code value h i = record { state = i; value = h; sent = tt }
+ended-bytes : (s : State) (code : Code) (value : ℕ) → value < 65536 → InBytes s → StepBytes (ended s code value)
+unfolding ended
+ended-bytes s code value h i = record { state = i; value = h; sent = tt }
 
 -- a code that counts as done is Done
 is-done : (c : Code) → isDone c ≡ true → c ≡ Done
@@ -667,17 +724,17 @@ access-fits : (s : State) (e : Event) → EventFits e → InRange s → StepFits
 unfolding access
 access-fits s e f i =
     cond-case StepFits (isDone (accessCode s e)) _ _ (λ d. done-fits s e f d i)
-    (λ d. refused-fits s (accessCode s e) (refusedValue e) i)
+    (λ d. ended-fits s (accessCode s e) (refusedValue e) i)
 
 access-bytes : (s : State) (e : Event) → EventFits e → InRange s → InBytes s → StepBytes (access s e)
 unfolding access
 access-bytes s e f i j =
     cond-case StepBytes (isDone (accessCode s e)) _ _ (λ d. done-bytes s e f i j)
-    (λ d. refused-bytes s (accessCode s e) (refusedValue e) (refused-value-fits e) j)
+    (λ d. ended-bytes s (accessCode s e) (refusedValue e) (refused-value-fits e) j)
 
 event-step-fits : (s : State) (e : Event) → EventFits e → InRange s → StepFits (stepEvent s e)
 unfolding stepEvent
-event-step-fits s PowerReset f i = refused-fits powerReset Done 0 power-reset-fits
+event-step-fits s PowerReset f i = ended-fits powerReset Done 0 power-reset-fits
 event-step-fits s (Write offset value) f i = access-fits s (Write offset value) f i
 event-step-fits s (Read offset) f i = access-fits s (Read offset) f i
 event-step-fits s (WordWrite word) f i = access-fits s (WordWrite word) f i
@@ -687,7 +744,7 @@ event-step-fits s (Ticks n) f i = access-fits s (Ticks n) f i
 
 event-step-bytes : (s : State) (e : Event) → EventFits e → InRange s → InBytes s → StepBytes (stepEvent s e)
 unfolding stepEvent
-event-step-bytes s PowerReset f i j = refused-bytes powerReset Done 0 (omega arith) power-reset-bytes
+event-step-bytes s PowerReset f i j = ended-bytes powerReset Done 0 (omega arith) power-reset-bytes
 event-step-bytes s (Write offset value) f i j = access-bytes s (Write offset value) f i j
 event-step-bytes s (Read offset) f i j = access-bytes s (Read offset) f i j
 event-step-bytes s (WordWrite word) f i j = access-bytes s (WordWrite word) f i j
@@ -698,12 +755,12 @@ event-step-bytes s (Ticks n) f i j = access-bytes s (Ticks n) f i j
 decoded-step-fits : (s : State) (d : Decoded) → DecodedFits d → InRange s → StepFits (stepDecoded s d)
 unfolding stepDecoded
 decoded-step-fits s (Well e) f i = event-step-fits s e f i
-decoded-step-fits s Ill f i = refused-fits s Malformed 0 i
+decoded-step-fits s Ill f i = ended-fits s Malformed 0 i
 
 decoded-step-bytes : (s : State) (d : Decoded) → DecodedFits d → InRange s → InBytes s → StepBytes (stepDecoded s d)
 unfolding stepDecoded
 decoded-step-bytes s (Well e) f i j = event-step-bytes s e f i j
-decoded-step-bytes s Ill f i j = refused-bytes s Malformed 0 (omega arith) j
+decoded-step-bytes s Ill f i j = ended-bytes s Malformed 0 (omega arith) j
 
 -- EVERY RECORD, whatever numbers it holds, leaves the state in range and reports at most 16 moves, 8 ACKs and 8 bytes
 pub step-fits : (s : State) (bytes : List ℕ) → InRange s → StepFits (step s bytes)

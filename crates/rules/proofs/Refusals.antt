@@ -5,14 +5,13 @@ use mathlib.Core.List.{List, [], _∷_}
 use Prim.Native.Nat.{ℕ, _≤_}
 use native.Mathlib.Omega.{arith}
 use Rattle.rules.specs.State.{State, powerReset}
-use Rattle.rules.specs.Seen.{reqSeen, rstSeen, matched, path, synchronous}
 use Rattle.rules.specs.Records.{decode}
 use Rattle.rules.specs.Events.{linesAfter, ticksOf}
 use Rattle.rules.specs.Codes.{numberOf, absent, testValue, shut, noRoom, noBytes, accessCode, refusedValue, isDone, isRefusal}
 use Rattle.rules.specs.StepA.{afterA}
-use Rattle.rules.specs.StepB.{edges, edgesOf, synchronousReq, reqRises, beyondLimit}
+use Rattle.rules.specs.StepB.{reqRises, beyond, atReq}
 use Rattle.rules.specs.Answers.{Stepped}
-use Rattle.rules.specs.Step.{refused, done, access, stepEvent, stepDecoded, step}
+use Rattle.rules.specs.Step.{ended, done, access, stepEvent, stepDecoded, step}
 use Rattle.rules.specs.declared.codes.Code.{Code}
 use Rattle.rules.specs.declared.codes.Code.the-variants.{Done, Malformed, Absent, Shut, NoRoom, NoBytes, BeyondLimit, TestValue}
 use Rattle.rules.specs.declared.records.Lines.{Lines}
@@ -22,6 +21,7 @@ use Rattle.rules.specs.declared.records.Decoded.{Decoded}
 use Rattle.rules.specs.declared.records.Decoded.the-variants.{Well, Ill}
 use Rattle.rules.specs.Examples.{Row, row, misses}
 use Rattle.rules.proofs.Computes.{computes}
+use Rattle.rules.proofs.InOrder.{Apart, req-leaves}
 use Rattle.rules.proofs.Logic.{never, cond-case}
 
 -- eight codes, 0 to 7
@@ -84,7 +84,7 @@ done-passed s e h =
 
 -- 1 comes first: a record that is not well formed gets it whatever the state
 pub first-malformed : (s : State) (bytes : List ℕ) → decode bytes ≡ Ill → (step s bytes) .code ≡ Malformed
-unfolding step stepDecoded refused
+unfolding step stepDecoded ended
 first-malformed s bytes e = rw e
 
 pub record Unchanged (s : State) (r : Stepped) : Type 0 where
@@ -96,17 +96,17 @@ pub record Unchanged (s : State) (r : Stepped) : Type 0 where
 done-unrefused : (s : State) (e : Event) → isRefusal ((done s e) .code) ≡ true → ⊥
 unfolding done
 done-unrefused s e =
-    cond-case (λ (c : Code). isRefusal c ≡ true → ⊥) ((edgesOf s e) .beyond) BeyondLimit Done (λ q. never) (λ q. never)
+    cond-case (λ (c : Code). isRefusal c ≡ true → ⊥) (beyond s (atReq s e)) BeyondLimit Done (λ q. never) (λ q. never)
 
 access-refused : (s : State) (e : Event) → isRefusal ((access s e) .code) ≡ true → Unchanged s (access s e)
-unfolding access refused
+unfolding access ended
 access-refused s e =
     cond-case (λ (r : Stepped). isRefusal (r .code) ≡ true → Unchanged s r) (isDone (accessCode s e)) _ _
     (λ q h. absurd (done-unrefused s e h)) (λ q h. record { state = refl; moves = refl; acks = refl; sent = refl })
 
 -- a refusal changes nothing and reports no ACK, no move, no sent byte
 pub refusal-changes-nothing : (s : State) (bytes : List ℕ) → isRefusal ((step s bytes) .code) ≡ true → Unchanged s (step s bytes)
-unfolding step stepDecoded stepEvent refused
+unfolding step stepDecoded stepEvent ended
 refusal-changes-nothing s bytes = go (decode bytes)
   where
     go : (d : Decoded) → isRefusal ((stepDecoded s d) .code) ≡ true → Unchanged s (stepDecoded s d)
@@ -121,13 +121,13 @@ refusal-changes-nothing s bytes = go (decode bytes)
 
 -- the value of a refusal: "FFh on read", "all ones of the width on read", "0 on write"
 access-value : (s : State) (e : Event) → isRefusal ((access s e) .code) ≡ true → (access s e) .value ≡ refusedValue e
-unfolding access refused
+unfolding access ended
 access-value s e =
     cond-case (λ (r : Stepped). isRefusal (r .code) ≡ true → r .value ≡ refusedValue e) (isDone (accessCode s e)) _ _
     (λ q h. absurd (done-unrefused s e h)) (λ q h. refl)
 
 pub refusal-value : (s : State) (e : Event) → isRefusal ((stepEvent s e) .code) ≡ true → (stepEvent s e) .value ≡ refusedValue e
-unfolding stepEvent refused
+unfolding stepEvent ended
 refusal-value s PowerReset h = absurd (never h)
 refusal-value s (Write o v) h = access-value s (Write o v) h
 refusal-value s (Read o) h = access-value s (Read o) h
@@ -137,13 +137,21 @@ refusal-value s (Drive l) h = access-value s (Drive l) h
 refusal-value s (Ticks n) h = access-value s (Ticks n) h
 
 -- an event that leaves the lines as they are raises no REQ
-no-req : (s : State) (e : Event) → linesAfter e (s .lines) ≡ s .lines → (edgesOf s e) .beyond ≡ false
-unfolding edgesOf edges synchronousReq reqRises afterA
-no-req s e h = rw (h, and-not-self)
+lines-at : (s : State) (e : Event) → (atReq s e) .lines ≡ linesAfter e (s .lines)
+unfolding afterA
+lines-at s e = ap (λ (a : Apart). a .lines) (req-leaves s e)
+
+pub no-rise : (s : State) (e : Event) → linesAfter e (s .lines) ≡ s .lines → reqRises s (atReq s e) ≡ false
+unfolding reqRises
+no-rise s e h = rw (lines-at s e ∙ h, and-not-self)
+
+pub not-beyond : (s : State) (e : Event) → linesAfter e (s .lines) ≡ s .lines → beyond s (atReq s e) ≡ false
+unfolding beyond
+not-beyond s e h = rw (no-rise s e h)
 
 done-beyond : (s : State) (e : Event) → linesAfter e (s .lines) ≡ s .lines → (done s e) .code ≡ BeyondLimit → ⊥
 unfolding done
-done-beyond s e h = rw (no-req s e h) (λ q. omega (arith, ap numberOf q))
+done-beyond s e h = rw (not-beyond s e h) (λ q. omega (arith, ap numberOf q))
 
 -- no check gives 6
 checks-beyond : (s : State) (e : Event) → accessCode s e ≡ BeyondLimit → ⊥
@@ -160,14 +168,14 @@ checks-beyond s e =
     at false f g = g
 
 access-beyond : (s : State) (e : Event) → linesAfter e (s .lines) ≡ s .lines → (access s e) .code ≡ BeyondLimit → ⊥
-unfolding access refused
+unfolding access ended
 access-beyond s e h =
     cond-case (λ (r : Stepped). r .code ≡ BeyondLimit → ⊥) (isDone (accessCode s e)) _ _ (λ q. done-beyond s e h)
     (λ q. checks-beyond s e)
 
 -- "6 arises only in kind 5"
 pub beyond-only-lines : (s : State) (bytes : List ℕ) → (step s bytes) .code ≡ BeyondLimit → (l : Lines) × (decode bytes ≡ Well (Drive l))
-unfolding step stepDecoded stepEvent refused linesAfter
+unfolding step stepDecoded stepEvent ended linesAfter
 beyond-only-lines s bytes = go (decode bytes)
   where
     go : (d : Decoded) → (stepDecoded s d) .code ≡ BeyondLimit → (l : Lines) × (d ≡ Well (Drive l))

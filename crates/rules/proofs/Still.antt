@@ -1,6 +1,6 @@
 -- An event of 0 ticks after any event changes nothing.
 use mathlib.Core.Path.{_≡_, refl, sym, _∙_, ap}
-use mathlib.Core.Bool.{Bool, true, false, not, _&&_, _||_, cond, and-not-self}
+use mathlib.Core.Bool.{Bool, true, false, not, _&&_, _||_, cond, and-not-self, and-false}
 use mathlib.Core.List.{List, [], _∷_}
 use Prim.Native.Nat.{ℕ, _+_, _≤_, min}
 use native.Mathlib.Omega.{arith}
@@ -8,6 +8,7 @@ use lib.Dec.{ltb, leb}
 use lib.ListN.{length}
 use borrow.Author.Tests.{le-ltb}
 use Rattle.rules.specs.State.{State, powerReset}
+use Rattle.rules.specs.Changed.{withQuiet}
 use Rattle.rules.specs.Seen.{ioSeen, reqSeen, rstSeen, bsySeen, selSeen, ackSeen, connected, mismatched, parityEven}
 use Rattle.rules.specs.Records.{wellFormed, fieldsOf, decode}
 use Rattle.rules.specs.Events.{writes, reads, valueOf, ticksOf, linesAfter, offered, asked, portWrite, portRead}
@@ -15,11 +16,11 @@ use Rattle.rules.specs.Interrupts.{latched}
 use Rattle.rules.specs.Reads.{valueRead}
 use Rattle.rules.specs.Codes.{absent, testValue, shut, noRoom, noBytes, accessCode, isDone}
 use Rattle.rules.specs.StepA.{clears, clearsLatch, clearsError, clrstcnt, clrch, rstfifo, latchAccess, automaticAck, registersA, hostA, counterA, transferA, statusA, latchesA, stackA, identityA, afterA}
-use Rattle.rules.specs.StepB.{reqFalls, rstRises, reqRises, parityBad, synchronousReq, registersB, quietAfter, busFree, edges, transferB, phaseChanges, statusB, applied, edgesOf, afterB}
+use Rattle.rules.specs.StepB.{reqFalls, ackReleased, afterReqFalls, rstRises, busReset, afterRstRises, reqRises, parityBad, reqRisen, afterReqRises, quietAfter, busFree, busFreed, afterQuietTicks, phaseChanges, phaseChanged, afterPhaseChanges, inOrder, afterB, atReq, beyond}
 use Rattle.rules.specs.StepC.{conditions, canMove, canHandshake, canSynchronous, canAsynchronous, settle, turns, started, settledC}
 use Rattle.rules.specs.StepD.{fifoConflict, pioReady, statusRaised, statusD, latchesD, finished, afterD}
 use Rattle.rules.specs.Answers.{Stepped}
-use Rattle.rules.specs.Step.{refused, done, access, stepEvent, stepDecoded, step, after}
+use Rattle.rules.specs.Step.{ended, done, access, stepEvent, stepDecoded, step, after}
 use Rattle.rules.specs.Ranges.{EventFits, DecodedFits, InRange}
 use Rattle.rules.specs.declared.registers.Registers.{Registers}
 use Rattle.rules.specs.declared.records.Event.{Event}
@@ -29,9 +30,10 @@ use Rattle.rules.specs.declared.records.Decoded.the-variants.{Well, Ill}
 use Rattle.rules.specs.declared.codes.Code.the-variants.{Done, BeyondLimit}
 use Rattle.rules.specs.declared.chip.Status.{Status}
 use Rattle.rules.specs.declared.chip.Latches.{Latches}
-use Rattle.rules.specs.declared.chip.Edges.{Edges}
 use Rattle.rules.proofs.Computes.{computes}
 use Rattle.rules.proofs.Logic.{never, cond-case}
+use Rattle.rules.proofs.InOrder.{Keeps, b-keeps}
+use Rattle.rules.proofs.Refusals.{not-beyond}
 use Rattle.rules.proofs.Ranges.{decode-fits, after-b-fits, power-reset-fits, step-fits, always-in-range}
 use Rattle.rules.proofs.Rest.{Resting, settle-rests, settling-rests}
 
@@ -58,7 +60,7 @@ clear-already true status h = refl
 clear-already false status h = sym (h refl)
 
 -- a latch whose status does not rise and whose enable is as before stays as it is
-latch-still : (kept enable status : Bool) → latched kept enable enable status status ≡ kept
+latch-still : (kept enable status : Bool) → latched (record { kept = kept; enable = enable; enabledBefore = enable; status = status; raised = status }) ≡ kept
 latch-still true enable status = refl
 latch-still false true true = refl
 latch-still false true false = refl
@@ -96,20 +98,9 @@ after-a-still s r =
     }
 
 -- B of no ticks: nothing rises or falls
-abbrev noEdges : ℕ → Edges
-noEdges quiet =
-    record {
-      reqfalls = false;
-      rstrises = false;
-      reqrises = false;
-      paritybad = false;
-      beyond = false;
-      counted = false;
-      stored = false;
-      late = false;
-      free = false;
-      quiet = quiet;
-    }
+req-fall-still : (s : State) → reqFalls s s ≡ false
+unfolding reqFalls
+req-fall-still s = and-not-self (reqSeen (s .registers) (s .lines))
 
 rst-still : (s : State) → rstRises s s ≡ false
 unfolding rstRises
@@ -117,64 +108,29 @@ rst-still s = and-not-self (rstSeen (s .registers) (s .lines))
 
 req-rise-still : (s : State) → reqRises s s ≡ false
 unfolding reqRises
-req-rise-still s = go (reqSeen (s .registers) (s .lines)) (not (rstSeen (s .registers) (s .lines)))
-  where
-    go : (q n : Bool) → (q && not q && n) ≡ false
-    go true n = refl
-    go false n = refl
+req-rise-still s = rw and-not-self
 
-req-fall-still : (s : State) → reqFalls s s ≡ false
-unfolding reqFalls
-req-fall-still s = and-not-self (reqSeen (s .registers) (s .lines))
-
-synchronous-still : (s : State) → synchronousReq s s ≡ false
-unfolding synchronousReq
-synchronous-still s = rw (req-rise-still s)
-
--- registers that no edge touches
-registers-still : (r : Registers) → registersB false false false r ≡ r
-unfolding registersB
-registers-still r = refl
-
-quiet-still : (s : State) → AtRest s → s .quiet ≤ 8 → quietAfter s s 0 ≡ s .quiet
+quiet-still : (s : State) → AtRest s → s .quiet ≤ 8 → quietAfter 0 s ≡ s .quiet
 unfolding quietAfter
-quiet-still s r h = rw (rst-still s, registers-still (s .registers)) (go (bsySeen (s .registers) (s .lines) || selSeen (s .registers) (s .lines)) refl)
+quiet-still s r h = go (bsySeen (s .registers) (s .lines) || selSeen (s .registers) (s .lines)) refl
   where
     go : (b : Bool) → (bsySeen (s .registers) (s .lines) || selSeen (s .registers) (s .lines)) ≡ b → cond b 0 (min 8 (s .quiet + 0)) ≡ s .quiet
     go true e = sym (r .quiet e)
     go false e = omega arith
 
-free-still : (s : State) → AtRest s → s .quiet ≤ 8 → busFree s s 0 ≡ false
+free-still : (s : State) → AtRest s → s .quiet ≤ 8 → busFree 0 s ≡ false
 unfolding busFree
 free-still s r h = rw (quiet-still s r h) (and-not-self (leb 8 (s .quiet)))
 
-edges-still : (s : State) → AtRest s → s .quiet ≤ 8 → edges s s 0 ≡ noEdges (s .quiet)
-unfolding edges
-edges-still s r h = rw (rst-still s, req-rise-still s, req-fall-still s, synchronous-still s, free-still s r h, quiet-still s r h)
-
-applied-still : (s : State) → applied (noEdges (s .quiet)) s s ≡ s
-unfolding applied transferB statusB phaseChanges registersB
-applied-still s =
-    λ i.
-    record {
-      lines = s .lines;
-      registers = s .registers;
-      transfer = s .transfer;
-      status = changed (and-not-self (mismatched (s .registers) (s .lines)) i);
-      latches = s .latches;
-      stack = s .stack;
-      quiet = s .quiet;
-      identity = s .identity;
-    }
-  where
-    changed : Bool → Status
-    changed b = statusB (noEdges (s .quiet)) b (s .status)
+phase-still : (s : State) → phaseChanges s s ≡ false
+unfolding phaseChanges
+phase-still s = and-not-self (mismatched (s .registers) (s .lines))
 
 after-b-still : (s : State) → AtRest s → s .quiet ≤ 8 → afterB s (Ticks 0) ≡ s
-unfolding afterB edgesOf ticksOf
+unfolding afterB ticksOf inOrder afterReqFalls afterRstRises afterReqRises afterQuietTicks afterPhaseChanges
 after-b-still s r h =
-    ap (λ (a : State). applied (edges s a 0) s a) (after-a-still s r) ∙ ap (λ (g : Edges). applied g s s) (edges-still s r h)
-    ∙ applied-still s
+    ap (λ (a : State). inOrder s 0 a) (after-a-still s r)
+    ∙ rw (req-fall-still s, rst-still s, req-rise-still s, free-still s r h, quiet-still s r h, phase-still s)
 
 -- C of no ticks
 settled-still : (s : State) → AtRest s → s .quiet ≤ 8 → settledC s (Ticks 0) ≡ started s
@@ -270,9 +226,9 @@ ticks-done : (s : State) → length (s .transfer .host) ≤ 128 → accessCode s
 unfolding accessCode absent testValue shut noRoom noBytes writes offered asked portWrite portRead
 ticks-done s h = rw (le-ltb 128 (length (s .transfer .host) + 0) (omega arith), le-ltb (length (s .transfer .host)) 0 (omega arith))
 
-ticks-edges : (s : State) → AtRest s → s .quiet ≤ 8 → edgesOf s (Ticks 0) ≡ noEdges (s .quiet)
-unfolding edgesOf ticksOf
-ticks-edges s r h = ap (λ (a : State). edges s a 0) (after-a-still s r) ∙ edges-still s r h
+ticks-beyond : (s : State) → beyond s (atReq s (Ticks 0)) ≡ false
+unfolding linesAfter
+ticks-beyond s = not-beyond s (Ticks 0) refl
 
 done-still : (s : State) → AtRest s → s .quiet ≤ 8 → done s (Ticks 0) ≡ nothing s
 unfolding done valueRead started
@@ -280,7 +236,7 @@ done-still s r h =
     λ i.
     record {
       state = after-d-still s r h i;
-      code = cond (ticks-edges s r h i .beyond) BeyondLimit Done;
+      code = cond (ticks-beyond s i) BeyondLimit Done;
       value = 0;
       moves = settled-still s r h i .moves;
       acks = settled-still s r h i .acks;
@@ -322,42 +278,65 @@ clears-seen false true status e = refl
 clears-seen keep false status e = absurd (never e)
 
 -- SCSIPERR neither rises nor stays where ENSPCHK is 0
-unchecked : (rises bus enspchk even kept status : Bool) → enspchk ≡ false → ((rises && (bus && enspchk && even)) || (kept && enspchk && status)) ≡ false
-unchecked true true false even true status e = refl
-unchecked true true false even false status e = refl
-unchecked true false false even true status e = refl
-unchecked true false false even false status e = refl
-unchecked false bus false even true status e = refl
-unchecked false bus false even false status e = refl
-unchecked rises bus true even kept status e = absurd (never (sym e))
+unchecked : (n : State) → n .registers .sxfrctl1 .enspchk ≡ false → parityBad n ≡ false
+unfolding parityBad
+unchecked n h = rw (h, and-false)
 
-parity-rests : (s : State) (e : Event) → (afterB s e) .registers .sxfrctl1 .enspchk ≡ false → (afterB s e) .status .scsiperr ≡ false
-unfolding afterB applied registersB statusB edgesOf edges parityBad afterA statusA
-parity-rests s e h =
-    let r = registersA (s .registers) e in
-    let l = linesAfter e (s .lines) in
-    unchecked (reqRises s (afterA s e)) (connected r l && ioSeen r l) (r .sxfrctl1 .enspchk) (parityEven r l (transferA (automaticAck s e) (s .transfer) e)) (not (clears e 2)) (s .status .scsiperr) h
+abbrev Checked : State → Type 0
+Checked n = n .registers .sxfrctl1 .enspchk ≡ false → n .status .scsiperr ≡ false
+
+checked-keeps : Keeps Checked
+unfolding ackReleased busReset reqRisen busFreed phaseChanged
+checked-keeps =
+    record {
+      released = λ n k. k;
+      reset = λ n k. k;
+      risen = λ n k h. rw (unchecked n h) (k h);
+      counted = λ n ticks k. k;
+      freed = λ n k. k;
+      changed = λ n k. k;
+    }
+
+parity-rests : (s : State) (e : Event) → Checked (afterB s e)
+unfolding afterA statusA
+parity-rests s e = b-keeps Checked checked-keeps s e (λ h. rw (h, and-false))
 
 -- BSY or SEL that is seen after B was seen where the quiet ticks were counted
-seen-before : (b x l y reset free : Bool) → ((b || (not (reset || free) && x)) || (l || (not (reset || free) && y))) ≡ true → ((b || (not (reset || false) && x)) || (l || (not (reset || false) && y))) ≡ true
-seen-before b x l y true free h = h
-seen-before b x l y false false h = h
-seen-before true x l y false true h = refl
-seen-before false true true y false true h = refl
-seen-before false false true y false true h = refl
-seen-before false x false y false true h = absurd (never h)
-
 none : (b : Bool) (n : ℕ) → b ≡ true → cond b 0 n ≡ 0
 none true n e = refl
 none false n e = absurd (never e)
 
-quiet-rests : (s : State) (e : Event) → (bsySeen ((afterB s e) .registers) ((afterB s e) .lines) || selSeen ((afterB s e) .registers) ((afterB s e) .lines)) ≡ true → (afterB s e) .quiet ≡ 0
-unfolding afterB edgesOf applied edges quietAfter bsySeen selSeen registersB
-quiet-rests s e h =
-    let a = afterA s e in
-    let reset = rstRises s a in
-    none ((a .lines .bsy || (not (reset || false) && a .registers .scsisig .bsyo)) || (a .lines .sel || (not (reset || false) && a .registers .scsisig .selo))) (min 8 (a .quiet + ticksOf e))
-    (seen-before (a .lines .bsy) (a .registers .scsisig .bsyo) (a .lines .sel) (a .registers .scsisig .selo) reset (busFree s a (ticksOf e)) h)
+abbrev busyAt : State → Bool
+busyAt n = bsySeen (n .registers) (n .lines) || selSeen (n .registers) (n .lines)
+
+busy-counts : (ticks : ℕ) (n : State) → busyAt n ≡ true → quietAfter ticks n ≡ 0
+unfolding quietAfter
+busy-counts ticks n h = none (busyAt n) (min 8 (n .quiet + ticks)) h
+
+seen-before : (b x l y : Bool) → ((b || false) || (l || false)) ≡ true → ((b || x) || (l || y)) ≡ true
+seen-before true x l y h = refl
+seen-before false true l y h = refl
+seen-before false false true y h = refl
+seen-before false false false y h = absurd (never h)
+
+freed-busy : (n : State) → busyAt (busFreed n) ≡ true → busyAt n ≡ true
+unfolding busFreed bsySeen selSeen
+freed-busy n h = seen-before (n .lines .bsy) (n .registers .scsisig .bsyo) (n .lines .sel) (n .registers .scsisig .selo) h
+
+abbrev Hushed : State → Type 0
+Hushed n = busyAt n ≡ true → n .quiet ≡ 0
+
+ticks-rest : (ticks : ℕ) (n : State) → Hushed (afterQuietTicks ticks n)
+unfolding afterQuietTicks busFreed
+ticks-rest ticks n =
+    let quiet = withQuiet (quietAfter ticks n) n in
+    cond-case Hushed (busFree ticks n) (busFreed quiet) quiet (λ f h. busy-counts ticks n (freed-busy quiet h)) (λ f h. busy-counts ticks n h)
+
+quiet-rests : (s : State) (e : Event) → Hushed (afterB s e)
+unfolding afterB inOrder afterPhaseChanges phaseChanged
+quiet-rests s e =
+    let n = afterQuietTicks (ticksOf e) (afterReqRises s (afterRstRises s (afterReqFalls s (afterA s e)))) in
+    cond-case Hushed (phaseChanges s n) (phaseChanged n) n (λ f. ticks-rest (ticksOf e) _) (λ f. ticks-rest (ticksOf e) _)
 
 -- EVERY EVENT THAT IS DONE LEAVES THE CHIP AT REST
 done-rests : (s : State) (e : Event) → InRange (afterB s e) → AtRest (afterD s e)
@@ -377,13 +356,13 @@ done-rests s e b =
 
 -- what a refusal and an access leave
 access-rests : (s : State) (e : Event) → EventFits e → InRange s → AtRest s → AtRest ((access s e) .state)
-unfolding access done refused
+unfolding access done ended
 access-rests s e f i r =
     cond-case (λ (k : Stepped). AtRest (k .state)) (isDone (accessCode s e)) _ _
     (λ d. done-rests s e (after-b-fits s e f d i)) (λ d. r)
 
 event-rests : (s : State) (e : Event) → EventFits e → InRange s → AtRest s → AtRest ((stepEvent s e) .state)
-unfolding stepEvent refused
+unfolding stepEvent ended
 event-rests s PowerReset f i r = power-reset-rests
 event-rests s (Write offset value) f i r = access-rests s (Write offset value) f i r
 event-rests s (Read offset) f i r = access-rests s (Read offset) f i r
@@ -393,7 +372,7 @@ event-rests s (Drive lines) f i r = access-rests s (Drive lines) f i r
 event-rests s (Ticks n) f i r = access-rests s (Ticks n) f i r
 
 decoded-rests : (s : State) (d : Decoded) → DecodedFits d → InRange s → AtRest s → AtRest ((stepDecoded s d) .state)
-unfolding stepDecoded refused
+unfolding stepDecoded ended
 decoded-rests s (Well e) f i r = event-rests s e f i r
 decoded-rests s Ill f i r = r
 

@@ -7,7 +7,8 @@ use Rattle.rules.specs.Numbers.{bit}
 use Rattle.rules.specs.State.{State, powerReset}
 use Rattle.rules.specs.Records.{linesOf}
 use Rattle.rules.specs.Codes.{numberOf, accessCode}
-use Rattle.rules.specs.StepB.{edgesOf}
+use Rattle.rules.specs.StepA.{afterA}
+use Rattle.rules.specs.StepB.{rstRises}
 use Rattle.rules.specs.Step.{step, after}
 use Rattle.rules.specs.Examples.{bytesOf}
 use Rattle.rules.specs.declared.codes.Code.the-variants.{Done, BeyondLimit}
@@ -35,7 +36,7 @@ unfolding computes
 word-taken = refl
 
 -- a bus reset
-reset-rises : (edgesOf powerReset (Drive (linesOf 0x100))) .rstrises ≡ true
+reset-rises : rstRises powerReset (afterA powerReset (Drive (linesOf 0x100))) ≡ true
 unfolding computes
 reset-rises = refl
 

@@ -8,11 +8,20 @@ use Rattle.rules.specs.declared.chip.Latches.{Latches}
 unfoldable pub phasemis : State → Bool
 phasemis s = mismatched (s .registers) (s .lines) && s .status .reqinit
 
+-- what a latch looks at: the latch as A leaves it, its enable after A and at the end of the last event, its status after A, and
+-- what its status rose to in the event
+pub record Latching : Type 0 where
+  pub kept : Bool
+  pub enable : Bool
+  pub enabledBefore : Bool
+  pub status : Bool
+  pub raised : Bool
+
 -- "A latch sets when its status rises, even if it falls again in the event, while enabled, or when the enable rises while
 -- status is 1. Masking later does not clear it."
--- kept: the latch after A; enable and enableBefore: its enable after A and before; status: after A; raised: what it rose to
-abbrev pub latched : Bool → Bool → Bool → Bool → Bool → Bool
-latched kept enable enableBefore status raised = kept || (enable && ((raised && not status) || (status && not enableBefore)))
+abbrev pub latched : Latching → Bool
+latched x =
+    x .kept || (x .enable && ((x .raised && not (x .status)) || (x .status && not (x .enabledBefore))))
 
 abbrev pub anyLatch : Latches → Bool
 anyLatch k = k .spiordy || k .scsirsti || k .busfree || k .scsiperr || k .phasechg || k .reqinit

@@ -2,6 +2,7 @@
 pub mod Numbers
 pub mod Registers
 pub mod State
+pub mod Changed
 pub mod Seen
 pub mod Map
 pub mod Records

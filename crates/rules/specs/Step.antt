@@ -8,7 +8,7 @@ use Rattle.rules.specs.State.{State, powerReset}
 use Rattle.rules.specs.Records.{decode}
 use Rattle.rules.specs.Reads.{valueRead}
 use Rattle.rules.specs.Codes.{numberOf, accessCode, refusedValue, isDone}
-use Rattle.rules.specs.StepB.{edgesOf}
+use Rattle.rules.specs.StepB.{beyond, atReq}
 use Rattle.rules.specs.StepC.{Settling, settledC}
 use Rattle.rules.specs.StepD.{afterD}
 use Rattle.rules.specs.Answers.{Stepped, answerOf, answerBytes, answerSize}
@@ -19,16 +19,20 @@ use Rattle.rules.specs.declared.records.Event.the-variants.{PowerReset, 
 use Rattle.rules.specs.declared.records.Decoded.{Decoded}
 use Rattle.rules.specs.declared.records.Decoded.the-variants.{Well, Ill}
 
+-- an event that ends at once, in this state: no moves, no ACKs, no sent bytes
+unfoldable pub ended : State → Code → ℕ → Stepped
+ended s code value = record { state = s; code = code; value = value; moves = 0; acks = 0; sent = [] }
+
 -- "A refused access (1 to 5, 7) has ACKs and moves 0 and no sent bytes; the other fields show the unchanged state."
-unfoldable pub refused : State → Code → ℕ → Stepped
-refused s code value = record { state = s; code = code; value = value; moves = 0; acks = 0; sent = [] }
+abbrev pub refused : State → Code → ℕ → Stepped
+refused s code value = ended s code value
 
 -- an event that is not refused: A, B, C, D; code 6 if B found a REQ beyond the limit, else 0
 unfoldable pub done : State → Event → Stepped
 done s e =
     record {
       state = afterD s e;
-      code = cond ((edgesOf s e) .beyond) BeyondLimit Done;
+      code = cond (beyond s (atReq s e)) BeyondLimit Done;
       value = valueRead s e;
       moves = (settledC s e) .moves;
       acks = (settledC s e) .acks;
@@ -39,9 +43,9 @@ done s e =
 unfoldable pub access : State → Event → Stepped
 access s e = cond (isDone (accessCode s e)) (done s e) (refused s (accessCode s e) (refusedValue e))
 
--- kind 0: "power reset"
+-- kind 0, "power reset", ends at once too; its code is 0
 unfoldable pub stepEvent : State → Event → Stepped
-stepEvent s PowerReset = refused powerReset Done 0
+stepEvent s PowerReset = ended powerReset Done 0
 stepEvent s (Write offset value) = access s (Write offset value)
 stepEvent s (Read offset) = access s (Read offset)
 stepEvent s (WordWrite word) = access s (WordWrite word)

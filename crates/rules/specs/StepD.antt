@@ -55,17 +55,59 @@ unfoldable pub latchesD : Registers → Registers → Status → Status → Latc
 latchesD before r status raised k =
     record {
       spiordy =
-          latched (k .spiordy) (r .simode0 .enspiordy) (before .simode0 .enspiordy) (status .spiordy) (raised .spiordy);
+          latched
+          (record {
+            kept = k .spiordy;
+            enable = r .simode0 .enspiordy;
+            enabledBefore = before .simode0 .enspiordy;
+            status = status .spiordy;
+            raised = raised .spiordy;
+          });
       scsirsti =
-          latched (k .scsirsti) (r .simode1 .enscsirst) (before .simode1 .enscsirst) (status .scsirsti) (raised .scsirsti);
+          latched
+          (record {
+            kept = k .scsirsti;
+            enable = r .simode1 .enscsirst;
+            enabledBefore = before .simode1 .enscsirst;
+            status = status .scsirsti;
+            raised = raised .scsirsti;
+          });
       busfree =
-          latched (k .busfree) (r .simode1 .enbusfree) (before .simode1 .enbusfree) (status .busfree) (raised .busfree);
+          latched
+          (record {
+            kept = k .busfree;
+            enable = r .simode1 .enbusfree;
+            enabledBefore = before .simode1 .enbusfree;
+            status = status .busfree;
+            raised = raised .busfree;
+          });
       scsiperr =
-          latched (k .scsiperr) (r .simode1 .enscsiperr) (before .simode1 .enscsiperr) (status .scsiperr) (raised .scsiperr);
+          latched
+          (record {
+            kept = k .scsiperr;
+            enable = r .simode1 .enscsiperr;
+            enabledBefore = before .simode1 .enscsiperr;
+            status = status .scsiperr;
+            raised = raised .scsiperr;
+          });
       phasechg =
-          latched (k .phasechg) (r .simode1 .enphasechg) (before .simode1 .enphasechg) (status .phasechg) (raised .phasechg);
+          latched
+          (record {
+            kept = k .phasechg;
+            enable = r .simode1 .enphasechg;
+            enabledBefore = before .simode1 .enphasechg;
+            status = status .phasechg;
+            raised = raised .phasechg;
+          });
       reqinit =
-          latched (k .reqinit) (r .simode1 .enreqinit) (before .simode1 .enreqinit) (status .reqinit) (raised .reqinit);
+          latched
+          (record {
+            kept = k .reqinit;
+            enable = r .simode1 .enreqinit;
+            enabledBefore = before .simode1 .enreqinit;
+            status = status .reqinit;
+            raised = raised .reqinit;
+          });
     }
 
 -- the state after D: last is the state at the end of the last event, a after A, b after B, c what settling left

@@ -62,20 +62,6 @@ pub struct Chip {
     pub identity: u8,
 }
 
-// The edges of one event, as step B finds them; quiet is the number of quiet ticks after it.
-pub struct Edges {
-    pub reqfalls: bool,
-    pub rstrises: bool,
-    pub reqrises: bool,
-    pub paritybad: bool,
-    pub beyond: bool,
-    pub counted: bool,
-    pub stored: bool,
-    pub late: bool,
-    pub free: bool,
-    pub quiet: u8,
-}
-
 // What settling looks at and does not change.
 pub struct Conditions {
     pub path: bool,

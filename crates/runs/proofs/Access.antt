@@ -6,9 +6,9 @@ use Prim.Native.Nat.{ℕ}
 use Rattle.rules.specs.State.{State, powerReset}
 use Rattle.rules.specs.Records.{decode}
 use Rattle.rules.specs.Codes.{absent, testValue, shut, noRoom, noBytes, accessCode, refusedValue, isDone}
-use Rattle.rules.specs.StepB.{edgesOf}
+use Rattle.rules.specs.StepB.{beyond, atReq}
 use Rattle.rules.specs.Answers.{Stepped}
-use Rattle.rules.specs.Step.{refused, done, access, stepEvent, stepDecoded, step}
+use Rattle.rules.specs.Step.{ended, refused, done, access, stepEvent, stepDecoded, step}
 use Rattle.rules.specs.declared.codes.Code.{Code}
 use Rattle.rules.specs.declared.codes.Code.the-variants.{Done, Malformed, Absent, Shut, NoRoom, NoBytes, BeyondLimit, TestValue}
 use Rattle.rules.specs.declared.records.Event.{Event}
@@ -57,13 +57,13 @@ passed s e h =
 -- a step that is done is no refusal
 pub done-code : (s : State) (e : Event) → isRefusal ((done s e) .code) ≡ false
 unfolding done
-done-code s e = go ((edgesOf s e) .beyond)
+done-code s e = go (beyond s (atReq s e))
   where
     go : (b : Bool) → isRefusal (cond b BeyondLimit Done) ≡ false
     go true = refl
     go false = refl
 
-module _ (s : State) (Q : Decoded → Stepped → Type 0) (stays : (d : Decoded) (code : Code) (value : ℕ) → isRefusal code ≡ true → Q d (refused s code value)) (resets : Q (Well PowerReset) (refused powerReset Done 0)) (goes : (e : Event) → isDone (accessCode s e) ≡ true → Q (Well e) (done s e)) where
+module _ (s : State) (Q : Decoded → Stepped → Type 0) (stays : (d : Decoded) (code : Code) (value : ℕ) → isRefusal code ≡ true → Q d (refused s code value)) (resets : Q (Well PowerReset) (ended powerReset Done 0)) (goes : (e : Event) → isDone (accessCode s e) ≡ true → Q (Well e) (done s e)) where
   access-law : (e : Event) → Q (Well e) (access s e)
   unfolding access
   access-law e = go (isDone (accessCode s e)) refl
@@ -100,8 +100,8 @@ module _ (allows : Event → Bool) (power : allows PowerReset ≡ false) (s : St
   unless : (e : Event) → (isRefusal ((done s e) .code) || allows e) ≡ true → allows e ≡ true
   unless e h = rw (done-code s e) at h
 
-  power-out : Guarded (Well PowerReset) (refused powerReset Done 0)
-  unfolding refused
+  power-out : Guarded (Well PowerReset) (ended powerReset Done 0)
+  unfolding ended
   power-out h = absurd (never (rw power at h))
 
   pub come-law : (bytes : List ℕ) → mayCome allows s bytes ≡ true → Q (decode bytes) (step s bytes)

@@ -13,7 +13,7 @@ use Rattle.rules.specs.StepB.{afterB}
 use Rattle.rules.specs.StepC.{conditions, started, turns, settledC}
 use Rattle.rules.specs.StepD.{finished, afterD}
 use Rattle.rules.specs.Answers.{Stepped}
-use Rattle.rules.specs.Step.{refused, done, step, after}
+use Rattle.rules.specs.Step.{ended, refused, done, step, after}
 use Rattle.rules.specs.declared.registers.Registers.{Registers}
 use Rattle.rules.specs.declared.codes.Code.{Code}
 use Rattle.rules.specs.declared.records.Event.{Event}
@@ -33,7 +33,7 @@ pub record AckStep (w : Bool) (k : ℕ) (r : Stepped) : Type 0 where
 
 module _ (w : Bool) (s : State) (h : Held w (s .registers)) (k : ℕ) (c : s .transfer .counter ≡ k % 16777216) where
   ack-refused : (d : Decoded) (code : Code) (value : ℕ) → isRefusal code ≡ true → AckStep w k (refused s code value)
-  unfolding refused
+  unfolding ended
   ack-refused d code value q = record { held = h; count = rw add-zero c }
 
   ack-done : (e : Event) → runAllows e ≡ true → isDone (accessCode s e) ≡ true → AckStep w k (done s e)
@@ -68,7 +68,7 @@ pub record PairStep (r : Stepped) : Type 0 where
 
 module _ (s : State) (h : Held true (s .registers)) where
   pair-refused : (d : Decoded) (code : Code) (value : ℕ) → isRefusal code ≡ true → PairStep (refused s code value)
-  unfolding refused
+  unfolding ended
   pair-refused d code value q = record { held = h; pair = refl }
 
   pair-done : (e : Event) → runAllows e ≡ true → isDone (accessCode s e) ≡ true → PairStep (done s e)

@@ -15,11 +15,11 @@ use Rattle.rules.specs.State.{State, powerReset}
 use Rattle.rules.specs.Events.{writes, valueOf, offered, portWrite}
 use Rattle.rules.specs.Codes.{accessCode, isDone}
 use Rattle.rules.specs.StepA.{clears, clrch, rstfifo, withAtn, registersA, hostA, transferA, afterA}
-use Rattle.rules.specs.StepB.{registersB, transferB, applied, edgesOf, afterB}
+use Rattle.rules.specs.StepB.{ackReleased, busReset, reqRisen, busFreed, phaseChanged, afterB}
 use Rattle.rules.specs.StepC.{Settling, conditions, started, turns, settledC}
 use Rattle.rules.specs.StepD.{finished, afterD}
 use Rattle.rules.specs.Answers.{Stepped}
-use Rattle.rules.specs.Step.{refused, done, step, after}
+use Rattle.rules.specs.Step.{ended, refused, done, step, after}
 use Rattle.rules.specs.declared.registers.Sxfrctl0.{Sxfrctl0}
 use Rattle.rules.specs.declared.registers.Scsisig.{Scsisig}
 use Rattle.rules.specs.declared.map.Register.the-variants.{SXFRCTL0, SCSISIGO}
@@ -29,14 +29,15 @@ use Rattle.rules.specs.declared.records.Event.{Event}
 use Rattle.rules.specs.declared.records.Event.the-variants.{PowerReset, Write, Read, WordWrite, WordRead, Drive, Ticks}
 use Rattle.rules.specs.declared.records.Decoded.{Decoded}
 use Rattle.rules.specs.declared.records.Decoded.the-variants.{Well}
+use Rattle.rules.proofs.InOrder.{b-keeps, acko-stays, scsien-stays}
 use Rattle.rules.proofs.Logic.{never, left-true, right-true}
 use Rattle.runs.specs.Comes.{isRefusal, says, mayCome, allCome, unlessRefused, along, acksAlong}
 use Rattle.runs.specs.Run.{sentBy}
 use Rattle.runs.specs.Clearing.{switchedOff, bothEmpty, leavesAcko, staysOff, allOff, mayClear, allClear}
 use Rattle.runs.proofs.Access.{done-code, step-law, come-law}
 use Rattle.runs.proofs.Settles.{unsent-settles, settle-still, empty-no-move, empty-no-handshake}
-use Rattle.runs.proofs.Stages.{stays-zero, spioen-A, outbound-stores-none, no-automatic-ack}
-use Rattle.runs.proofs.Cut.{off-B, both-true, idle-event}
+use Rattle.runs.proofs.Stages.{stays-zero, spioen-A, outbound-stores-none, no-automatic-ack, host-B, scsi-B}
+use Rattle.runs.proofs.Cut.{both-true, idle-event}
 
 none-of-length : (l : List ℕ) → eqb (length l) 0 ≡ true → l ≡ []
 none-of-length [] h = refl
@@ -45,8 +46,8 @@ none-of-length (x ∷ l) h = let n = eqb-true (length (x ∷ l)) 0 h in absurd (
 -- both FIFOs empty and no byte offered: they are empty when settling starts
 module _ (s : State) (e : Event) (none : offered e ≡ []) where
   host-still-empty : s .transfer .host ≡ [] → (afterB s e) .transfer .host ≡ []
-  unfolding afterB applied transferB afterA transferA hostA
-  host-still-empty h = rw (h, none, drop-nil) (go (rstfifo e) (portWrite e))
+  unfolding afterA transferA hostA
+  host-still-empty h = host-B s e ∙ rw (h, none, drop-nil) (go (rstfifo e) (portWrite e))
     where
       go : (a b : Bool) → _≡_ {A = List ℕ} (cond a [] (cond b [] [])) []
       go true b = refl
@@ -54,10 +55,10 @@ module _ (s : State) (e : Event) (none : offered e ≡ []) where
       go false false = refl
 
   scsi-still-empty : s .transfer .scsi ≡ [] → (afterB s e) .registers .dmacntrl0 .write ≡ true → (afterB s e) .transfer .scsi ≡ []
-  unfolding afterB applied transferB afterA transferA
-  scsi-still-empty h w = rw (outbound-stores-none s e w, h) (go (clrch e))
+  unfolding afterA transferA
+  scsi-still-empty h w = scsi-B s e ∙ rw (outbound-stores-none s e w, h) (go (clrch e))
     where
-      go : (a : Bool) → _≡_ {A = List ℕ} (cond a [] []) []
+      go : (a : Bool) → _≡_ {A = List ℕ} (cond a [] [] ++ []) []
       go true = refl
       go false = refl
 
@@ -79,11 +80,11 @@ module _ (s : State) where
   Clears d r = (switchedOff (r .state) || (bothEmpty s && eqb (length (unlessRefused offered d (r .code))) 0)) ≡ true → r .sent ≡ []
 
   clears-refused : (d : Decoded) (code : Code) (value : ℕ) → isRefusal code ≡ true → Clears d (refused s code value)
-  unfolding refused
+  unfolding ended
   clears-refused d code value q h = refl
 
-  clears-reset : Clears (Well PowerReset) (refused powerReset Done 0)
-  unfolding refused
+  clears-reset : Clears (Well PowerReset) (ended powerReset Done 0)
+  unfolding ended
   clears-reset h = refl
 
   off-sends-none : (e : Event) → switchedOff ((done s e) .state) ≡ true → (done s e) .sent ≡ []
@@ -152,26 +153,33 @@ module _ (s : State) (e : Event) (a : s .registers .scsisig .acko ≡ false) (ke
       (not-true (writes e SCSISIGO && bit (valueOf e) 0) keep) a
 
   acko-B : (afterB s e) .registers .scsisig .acko ≡ false
-  unfolding afterB applied registersB
-  acko-B = rw acko-A (and-false (not ((edgesOf s e) .rstrises || (edgesOf s e) .free)))
+  acko-B = acko-stays s e acko-A
 
 -- without an Automatic ACK, B turns no ACK on
 ack-before : (s : State) (e : Event) → s .registers .sxfrctl0 .spioen ≡ false → (afterB s e) .transfer .ack ≡ true → s .transfer .ack ≡ true
-unfolding afterB applied transferB afterA transferA
-ack-before s e p h =
-    right-true (not ((edgesOf s e) .reqfalls || (edgesOf s e) .rstrises || (edgesOf s e) .free)) (s .transfer .ack)
-    (rw (no-automatic-ack s e p) at h)
+unfolding ackReleased busReset reqRisen busFreed phaseChanged afterA transferA
+ack-before s e p =
+    b-keeps (λ n. n .transfer .ack ≡ true → s .transfer .ack ≡ true)
+    (record {
+      released = λ n h t. absurd (never t);
+      reset = λ n h t. absurd (never t);
+      risen = λ n h. h;
+      counted = λ n ticks h. h;
+      freed = λ n h t. absurd (never t);
+      changed = λ n h. h;
+    })
+    s e (λ h. rw (no-automatic-ack s e p) at h)
 
 module _ (s : State) (o : switchedOff s ≡ true) (a : s .registers .scsisig .acko ≡ false) where
   abbrev Silences : Decoded → Stepped → Type 0
   Silences d r = switchedOff (r .state) ≡ true → (isRefusal (r .code) || says leavesAcko d) ≡ true → Silent s (r .state) (r .acks)
 
   silent-refused : (d : Decoded) (code : Code) (value : ℕ) → isRefusal code ≡ true → Silences d (refused s code value)
-  unfolding refused
+  unfolding ended
   silent-refused d code value q h k = record { none = refl; off = o; acko = a; ack = λ t. t }
 
-  silent-reset : Silences (Well PowerReset) (refused powerReset Done 0)
-  unfolding refused powerReset
+  silent-reset : Silences (Well PowerReset) (ended powerReset Done 0)
+  unfolding ended powerReset
   silent-reset h k = record { none = refl; off = h; acko = refl; ack = λ t. absurd (never t) }
 
   silent-done : (e : Event) → isDone (accessCode s e) ≡ true → Silences (Well e) (done s e)
@@ -223,11 +231,11 @@ module _ (s : State) (o : switchedOff s ≡ true) where
   off-done : (e : Event) → staysOff e ≡ true → isDone (accessCode s e) ≡ true → switchedOff ((done s e) .state) ≡ true
   unfolding done afterD finished
   off-done e h q =
-      off-by (afterD s e) (off-B s e (bit-stays e (λ x. x .scsien) (stays-bits e h .0) (off-scsien s o)))
+      off-by (afterD s e) (scsien-stays s e (bit-stays e (λ x. x .scsien) (stays-bits e h .0) (off-scsien s o)))
       (spioen-A s e ∙ bit-stays e (λ x. x .spioen) (stays-bits e h .1) (off-spioen s o))
 
   off-refused : (d : Decoded) (code : Code) (value : ℕ) → isRefusal code ≡ true → switchedOff ((refused s code value) .state) ≡ true
-  unfolding refused
+  unfolding ended
   off-refused d code value q = o
 
   pub step-stays-off : (bytes : List ℕ) → mayCome staysOff s bytes ≡ true → switchedOff ((step s bytes) .state) ≡ true

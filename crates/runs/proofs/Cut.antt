@@ -18,11 +18,11 @@ use Rattle.rules.specs.Reads.{readOf, readMapped, valueRead}
 use Rattle.rules.specs.Events.{writes, reads, valueOf}
 use Rattle.rules.specs.Codes.{accessCode, isDone}
 use Rattle.rules.specs.StepA.{registersA, afterA}
-use Rattle.rules.specs.StepB.{registersB, applied, edgesOf, afterB}
+use Rattle.rules.specs.StepB.{afterB}
 use Rattle.rules.specs.StepC.{conditions, started, turns, settledC}
 use Rattle.rules.specs.StepD.{finished, afterD}
 use Rattle.rules.specs.Answers.{Stepped}
-use Rattle.rules.specs.Step.{refused, done, step, after}
+use Rattle.rules.specs.Step.{ended, refused, done, step, after}
 use Rattle.rules.specs.declared.codes.Code.{Code}
 use Rattle.rules.specs.declared.codes.Code.the-variants.{Done, Malformed, Absent, Shut, NoRoom, NoBytes, BeyondLimit, TestValue}
 use Rattle.rules.specs.declared.map.Register.{Register}
@@ -32,6 +32,7 @@ use Rattle.rules.specs.declared.records.Event.{Event}
 use Rattle.rules.specs.declared.records.Event.the-variants.{PowerReset, Write, Read, WordWrite, WordRead, Drive, Ticks}
 use Rattle.rules.specs.declared.records.Decoded.{Decoded}
 use Rattle.rules.specs.declared.records.Decoded.the-variants.{Well, Ill}
+use Rattle.rules.proofs.InOrder.{scsien-stays}
 use Rattle.rules.proofs.Logic.{never, left-true, right-true}
 use Rattle.runs.specs.Comes.{isRefusal, says, mayCome, allCome, along}
 use Rattle.runs.specs.Run.{keepsRun, writeAllowed, runAllows, accepted, sentBy}
@@ -51,11 +52,6 @@ pub record Quiet (w : Bool) (s later : State) (sent : List ℕ) : Type 0 where
   pub same : later .transfer .counter ≡ s .transfer .counter
   pub none : sent ≡ []
 
--- B leaves SCSIEN 0
-pub off-B : (s : State) (e : Event) → (afterA s e) .registers .sxfrctl0 .scsien ≡ false → (afterB s e) .registers .sxfrctl0 .scsien ≡ false
-unfolding afterB applied registersB
-off-B s e h = rw h (and-false (not ((edgesOf s e) .rstrises)))
-
 -- with SCSIEN 0 after the event no handshake is enabled
 pub off-disables : (s : State) → s .registers .sxfrctl0 .scsien ≡ false → (conditions s) .enabled ≡ false
 unfolding conditions
@@ -70,7 +66,7 @@ idle-event s e h =
 done-quiet : (w : Bool) (s : State) (e : Event) → Spared e → Held w (s .registers) → (afterA s e) .registers .sxfrctl0 .scsien ≡ false → Quiet w s ((done s e) .state) ((done s e) .sent)
 unfolding done afterD finished
 done-quiet w s e p h n =
-    let b = off-B s e n in
+    let b = scsien-stays s e n in
     let i = idle-event s e b in
     record { off = b; held = held-after w s e p h; same = i .counter ∙ counter-before s e p (h .spioen); none = i .none }
 
@@ -87,7 +83,7 @@ calm-A s e h o =
 
 module _ (w : Bool) (s : State) (o : s .registers .sxfrctl0 .scsien ≡ false) (h : Held w (s .registers)) where
   calm-refused : (d : Decoded) (code : Code) (value : ℕ) → isRefusal code ≡ true → Quiet w s ((refused s code value) .state) ((refused s code value) .sent)
-  unfolding refused
+  unfolding ended
   calm-refused d code value q = record { off = o; held = h; same = refl; none = refl }
 
   pub step-quiet : (bytes : List ℕ) → mayCome calm s bytes ≡ true → Quiet w s ((step s bytes) .state) (sentBy s bytes)
@@ -143,10 +139,10 @@ module _ (w : Bool) (s : State) (h : Held w (s .registers)) where
   Stops d r = says isCut d ≡ true → isDone (r .code) ≡ true → Quiet w s (r .state) (r .sent)
 
   cut-refused : (d : Decoded) (code : Code) (value : ℕ) → isRefusal code ≡ true → Stops d (refused s code value)
-  unfolding refused
+  unfolding ended
   cut-refused d code value q k c = absurd (done-is-no-refusal code c q)
 
-  cut-reset : Stops (Well PowerReset) (refused powerReset Done 0)
+  cut-reset : Stops (Well PowerReset) (ended powerReset Done 0)
   unfolding isCut writes
   cut-reset k c = absurd (never k)
 
@@ -161,10 +157,10 @@ module _ (r : Register) (there : readAt (offsetOf r) ≡ Present r) (s : State) 
   Gives d x = isDone (x .code) ≡ true → says (λ e. reads e r) d ≡ true → x .value ≡ readOf s r
 
   gives-refused : (d : Decoded) (code : Code) (value : ℕ) → isRefusal code ≡ true → Gives d (refused s code value)
-  unfolding refused
+  unfolding ended
   gives-refused d code value q c k = absurd (done-is-no-refusal code c q)
 
-  gives-reset : Gives (Well PowerReset) (refused powerReset Done 0)
+  gives-reset : Gives (Well PowerReset) (ended powerReset Done 0)
   unfolding reads
   gives-reset c k = absurd (never k)
 

@@ -15,11 +15,11 @@ use Rattle.rules.specs.Events.{asked, portRead}
 use Rattle.rules.specs.Codes.{noBytes, accessCode, isDone}
 use Rattle.rules.specs.Ranges.{Bytes}
 use Rattle.rules.specs.StepA.{transferA, afterA}
-use Rattle.rules.specs.StepB.{transferB, applied, edgesOf, afterB}
+use Rattle.rules.specs.StepB.{afterB}
 use Rattle.rules.specs.StepC.{conditions, started, turns, settledC}
 use Rattle.rules.specs.StepD.{finished, afterD}
 use Rattle.rules.specs.Answers.{Stepped}
-use Rattle.rules.specs.Step.{refused, done, step, after}
+use Rattle.rules.specs.Step.{ended, refused, done, step, after}
 use Rattle.rules.specs.declared.codes.Code.{Code}
 use Rattle.rules.specs.declared.codes.Code.the-variants.{Done}
 use Rattle.rules.specs.declared.records.Event.{Event}
@@ -34,25 +34,12 @@ use Rattle.runs.proofs.Access.{Passed, passed, done-code, step-law, com
 use Rattle.runs.proofs.Along.{along-law}
 use Rattle.runs.proofs.Settles.{storedBy, Inbound, inbound-settles}
 use Rattle.runs.proofs.Spared.{Spared, spared}
-use Rattle.runs.proofs.Stages.{Held, held-at-start, held-after, asks-none, host-inbound}
+use Rattle.runs.proofs.Stages.{Held, held-at-start, held-after, asks-none, host-B, host-inbound, scsi-B}
 
 -- at a moment of a read run, after the chip took these bytes and the host read those
 pub record ReadMoment (s : State) (tookSoFar readSoFar : List ℕ) : Type 0 where
   pub held : Held false (s .registers)
   pub order : readSoFar ++ (s .transfer .host ++ s .transfer .scsi) ≡ tookSoFar
-
--- before settling the SCSI FIFO has got the byte that a REQ stores
-stored-last : (t : Bool) (l : List ℕ) (b : ℕ) → cond t (l ++ (b ∷ [])) l ≡ l ++ cond t (b ∷ []) []
-stored-last true l b = refl
-stored-last false l b = sym (append-nil l)
-
-scsi-B : (s : State) (e : Event) → (afterB s e) .transfer .scsi ≡ (afterA s e) .transfer .scsi ++ tookAtReq s e
-unfolding afterB applied transferB tookAtReq
-scsi-B s e = stored-last ((edgesOf s e) .stored) ((afterA s e) .transfer .scsi) _
-
-host-B : (s : State) (e : Event) → (afterB s e) .transfer .host ≡ (afterA s e) .transfer .host
-unfolding afterB applied transferB
-host-B s e = refl
 
 -- what an event puts behind the FIFOs' bytes, inbound
 abbrev pub took : State → Event → List ℕ
@@ -111,7 +98,7 @@ module _ (s : State) (a b : List ℕ) (i : ReadMoment s a b) where
       ReadMoment (r .state) (a ++ unlessRefused (took s) d (r .code)) (b ++ unlessRefused (λ e. take (asked e) (s .transfer .host)) d (r .code))
 
   next-refused : (d : Decoded) (code : Code) (value : ℕ) → isRefusal code ≡ true → Next d (refused s code value)
-  unfolding refused
+  unfolding ended
   next-refused d code value q = rw (q, append-nil a, append-nil b) i
 
   next-done : (e : Event) → runAllows e ≡ true → isDone (accessCode s e) ≡ true → Next (Well e) (done s e)
@@ -146,10 +133,10 @@ module _ (s : State) where
   Answers d r = says portRead d ≡ true → isRefusal (r .code) ≡ false → r .value ≡ littleEndian (unlessRefused (λ e. take (asked e) (s .transfer .host)) d (r .code))
 
   answers-refused : (d : Decoded) (code : Code) (value : ℕ) → isRefusal code ≡ true → Answers d (refused s code value)
-  unfolding refused
+  unfolding ended
   answers-refused d code value q h k = absurd (never (sym k ∙ q))
 
-  answers-reset : Answers (Well PowerReset) (refused powerReset Done 0)
+  answers-reset : Answers (Well PowerReset) (ended powerReset Done 0)
   unfolding portRead
   answers-reset h k = absurd (never h)
 
@@ -211,7 +198,7 @@ module _ (s : State) (b : Bytes (s .transfer .host)) where
   Hands d r = isRefusal (r .code) ≡ false → eventBytes (λ e. lowBytes (asked e) (r .value)) d ≡ eventBytes (λ e. take (asked e) (s .transfer .host)) d
 
   hands-refused : (d : Decoded) (code : Code) (value : ℕ) → isRefusal code ≡ true → Hands d (refused s code value)
-  unfolding refused
+  unfolding ended
   hands-refused d code value q k = absurd (never (sym k ∙ q))
 
   hands-reset : Hands (Well PowerReset) (refused powerReset Done 0)

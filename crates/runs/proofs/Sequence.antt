@@ -1,7 +1,7 @@
 -- The concrete clearing reaches the start of a run, whatever the lines are.
-use mathlib.Core.Path.{_≡_, refl, _∙_}
+use mathlib.Core.Path.{_≡_, refl, sym, ap, _∙_}
 use mathlib.Core.Bool.{Bool, true, false, not, _&&_, _||_, cond, and-false, or-true}
-use mathlib.Core.List.{List, []}
+use mathlib.Core.List.{List, [], append-nil}
 use Prim.Native.Nat.{ℕ, _+_, _≤_}
 use native.Mathlib.Omega.{arith}
 use lib.ListN.{length}
@@ -11,10 +11,10 @@ use Rattle.rules.specs.Map.{offsetOf, table, writtenAt}
 use Rattle.rules.specs.State.{State}
 use Rattle.rules.specs.Seen.{normal, path}
 use Rattle.rules.specs.Records.{decode, fieldsOf, wellFormed}
-use Rattle.rules.specs.Events.{writes, reads, valueOf, offered, asked, portWrite, portRead, linesAfter}
+use Rattle.rules.specs.Events.{writes, reads, valueOf, ticksOf, offered, asked, portWrite, portRead, linesAfter}
 use Rattle.rules.specs.Codes.{absent, testValue, shut, noRoom, noBytes, accessCode}
 use Rattle.rules.specs.StepA.{clrstcnt, clrch, rstfifo, latchAccess, automaticAck, registersA, hostA, counterA, transferA, afterA}
-use Rattle.rules.specs.StepB.{reqRises, synchronousReq, registersB, edges, transferB, applied, edgesOf, afterB}
+use Rattle.rules.specs.StepB.{ackReleased, afterReqFalls, busReset, reqRises, beyond, afterReqRises, busFreed, afterQuietTicks, phaseChanged, inOrder, atReq, afterB}
 use Rattle.rules.specs.StepC.{conditions, started, turns, settledC}
 use Rattle.rules.specs.StepD.{finished, afterD}
 use Rattle.rules.specs.Step.{done, access, stepEvent, stepDecoded, step, after}
@@ -25,31 +25,26 @@ use Rattle.rules.specs.declared.map.Register.the-variants.{SXFRCTL0, SCSISIGO, 
 use Rattle.rules.specs.declared.records.Event.{Event}
 use Rattle.rules.specs.declared.records.Event.the-variants.{Write}
 use Rattle.rules.specs.declared.records.Decoded.the-variants.{Well}
-use Rattle.runs.specs.Run.{Starts, accepted}
+use Rattle.rules.proofs.InOrder.{falls-keeps, reset-keeps, quiet-keeps, phase-keeps, b-keeps, Apart, b-leaves, scsien-stays, acko-stays, ioexp-keeps}
+use Rattle.rules.proofs.Refusals.{no-rise, not-beyond}
+use Rattle.runs.specs.Run.{Starts, accepted, tookAtReq}
 use Rattle.runs.specs.Clearing.{switchedOff, bothEmpty, mayClear, allClear, allDone, writeRecord, manualValue, controlValue, clearValue, signalValue, openValue, clearingOf}
+use Rattle.runs.proofs.Stages.{write-A, host-B, scsi-B}
 use Rattle.runs.proofs.Settles.{settle-still, no-path-no-move, disabled-no-handshake, empty-no-move, empty-no-handshake}
 
 -- a register write brings no edge of REQ
 module _ (s : State) (offset value : ℕ) where
-  no-edge : (a b : Bool) → (a && not a && b) ≡ false
-  no-edge true b = refl
-  no-edge false b = refl
+  no-req : reqRises s (atReq s (Write offset value)) ≡ false
+  unfolding linesAfter
+  no-req = no-rise s (Write offset value) refl
 
-  no-req : reqRises s (afterA s (Write offset value)) ≡ false
-  unfolding reqRises afterA linesAfter
-  no-req = no-edge (s .lines .req) _
-
-  stores-none : (edgesOf s (Write offset value)) .stored ≡ false
-  unfolding edgesOf edges synchronousReq
+  stores-none : tookAtReq s (Write offset value) ≡ []
+  unfolding tookAtReq
   stores-none = rw no-req
 
-  counts-none : (edgesOf s (Write offset value)) .counted ≡ false
-  unfolding edgesOf edges synchronousReq
-  counts-none = rw no-req
-
-  not-beyond : (edgesOf s (Write offset value)) .beyond ≡ false
-  unfolding edgesOf edges synchronousReq
-  not-beyond = rw no-req
+  none-beyond : beyond s (atReq s (Write offset value)) ≡ false
+  unfolding linesAfter
+  none-beyond = not-beyond s (Write offset value) refl
 
 -- Manual mode with SCSIEN 0
 record ManualMode (r : Registers) : Type 0 where
@@ -58,8 +53,19 @@ record ManualMode (r : Registers) : Type 0 where
   spioen : r .sxfrctl0 .spioen ≡ false
 
 mode-B : (s : State) (e : Event) → ManualMode ((afterA s e) .registers) → ManualMode ((afterB s e) .registers)
-unfolding afterB applied registersB
-mode-B s e m = record { scsien = rw (m .scsien) (and-false (not ((edgesOf s e) .rstrises))); dmaen = m .dmaen; spioen = m .spioen }
+mode-B s e m =
+    record {
+      scsien = scsien-stays s e (m .scsien);
+      dmaen = ap (λ (a : Apart). a .dmaen) (b-leaves s e) ∙ m .dmaen;
+      spioen = ap (λ (a : Apart). a .spioen) (b-leaves s e) ∙ m .spioen;
+    }
+
+-- the direction and the counter are as A leaves them
+write-B : (s : State) (e : Event) → (afterA s e) .registers .dmacntrl0 .write ≡ true → (afterB s e) .registers .dmacntrl0 .write ≡ true
+write-B s e h = sym (write-A s e) ∙ h
+
+counter-B : (s : State) (e : Event) → (afterB s e) .transfer .counter ≡ (afterA s e) .transfer .counter
+counter-B s e = ap (λ (a : Apart). a .counter) (b-leaves s e)
 
 -- in Manual mode settling changes nothing
 manual-no-path : (r : Registers) → r .sxfrctl0 .dmaen ≡ false → path r ≡ false
@@ -114,7 +120,7 @@ module _ (s : State) (r : Register) (value : ℕ) (p : Plain r value) (room : le
 
   done-code-0 : (done s written) .code ≡ Done
   unfolding done
-  done-code-0 = rw (not-beyond s (offsetOf r) value)
+  done-code-0 = rw (none-beyond s (offsetOf r) value)
 
   pub write-answers : (step s (writeRecord r value)) .code ≡ Done
   write-answers = rw write-steps done-code-0
@@ -162,8 +168,8 @@ module _ (s : State) (room : length (s .transfer .host) ≤ 128) where
   manual-A = record { scsien = refl; dmaen = refl; spioen = refl }
 
   manual-host : (afterB s (Write 0x01 manualValue)) .transfer .host ≡ s .transfer .host
-  unfolding afterB applied transferB afterA transferA hostA rstfifo writes portWrite asked
-  manual-host = refl
+  unfolding afterA transferA hostA rstfifo writes portWrite asked
+  manual-host = host-B s (Write 0x01 manualValue)
 
   after-manual : Manual ((step s (writeRecord SXFRCTL0 manualValue)) .state)
   after-manual =
@@ -186,16 +192,16 @@ module _ (s : State) (m : Manual s) (eightbit : Bool) where
   emptied-A = record { scsien = m .mode .scsien; dmaen = m .mode .dmaen; spioen = m .mode .spioen }
 
   emptied-write : (afterB s (Write 0x12 (controlValue eightbit))) .registers .dmacntrl0 .write ≡ true
-  unfolding afterB applied registersB afterA registersA writes valueOf
-  emptied-write = go eightbit
+  unfolding afterA registersA writes valueOf
+  emptied-write = write-B s (Write 0x12 (controlValue eightbit)) (go eightbit)
     where
       go : (b : Bool) → bit (controlValue b) 3 ≡ true
       go true = refl
       go false = refl
 
   emptied-host : (afterB s (Write 0x12 (controlValue eightbit))) .transfer .host ≡ []
-  unfolding afterB applied transferB afterA transferA hostA rstfifo writes valueOf
-  emptied-host = rw (go eightbit)
+  unfolding afterA transferA hostA rstfifo writes valueOf
+  emptied-host = host-B s (Write 0x12 (controlValue eightbit)) ∙ rw (go eightbit)
     where
       go : (b : Bool) → bit (controlValue b) 1 ≡ true
       go true = refl
@@ -221,27 +227,25 @@ record Zeroed (s : State) : Type 0 where
   mode : ManualMode (s .registers)
   write : s .registers .dmacntrl0 .write ≡ true
 
--- an offset of 0 stays 0 where no REQ is counted
+-- an offset of 0 stays 0 where no REQ rises
+abbrev At0 : State → Type 0
+At0 n = n .transfer .offset ≡ 0
+
 offset-B : (s : State) (o v : ℕ) → (afterA s (Write o v)) .transfer .offset ≡ 0 → (afterB s (Write o v)) .transfer .offset ≡ 0
-unfolding afterB applied transferB
-offset-B s o v h = rw (counts-none s o v, h) (go ((edgesOf s (Write o v)) .rstrises || (edgesOf s (Write o v)) .free))
-  where
-    go : (a : Bool) → _≡_ {A = ℕ} (cond a 0 0) 0
-    go true = refl
-    go false = refl
+unfolding afterB inOrder atReq afterReqRises ackReleased busReset busFreed phaseChanged
+offset-B s o v h =
+    let e = Write o v in
+    let first = reset-keeps At0 s (λ n k. refl) (afterReqFalls s (afterA s e)) (falls-keeps At0 s (λ n k. k) (afterA s e) h) in
+    let risen : At0 (afterReqRises s (atReq s e)) = rw (no-req s o v) first in
+    phase-keeps At0 s (λ n k. k) (afterQuietTicks (ticksOf e) (afterReqRises s (atReq s e)))
+    (quiet-keeps At0 (λ n k. refl) (ticksOf e) (afterReqRises s (atReq s e)) risen)
 
-scsi-B : (s : State) (o v : ℕ) → (afterB s (Write o v)) .transfer .scsi ≡ (afterA s (Write o v)) .transfer .scsi
-unfolding afterB applied transferB
-scsi-B s o v = rw (stores-none s o v)
+scsi-kept : (s : State) (o v : ℕ) → (afterB s (Write o v)) .transfer .scsi ≡ (afterA s (Write o v)) .transfer .scsi
+scsi-kept s o v = scsi-B s (Write o v) ∙ rw (stores-none s o v) (append-nil ((afterA s (Write o v)) .transfer .scsi))
 
--- and a bit of 343h that is 0 after A stays 0
+-- and so does an IOEXP of 0
 ioexp-B : (s : State) (e : Event) → (afterA s e) .registers .scsisig .ioexp ≡ false → (afterB s e) .registers .scsisig .ioexp ≡ false
-unfolding afterB applied registersB
-ioexp-B s e h = rw h (and-false (not ((edgesOf s e) .rstrises || (edgesOf s e) .free)))
-
-acko-B : (s : State) (e : Event) → (afterA s e) .registers .scsisig .acko ≡ false → (afterB s e) .registers .scsisig .acko ≡ false
-unfolding afterB applied registersB
-acko-B s e h = rw h (and-false (not ((edgesOf s e) .rstrises || (edgesOf s e) .free)))
+ioexp-B = b-keeps (λ n. n .registers .scsisig .ioexp ≡ false) ioexp-keeps
 
 module _ (s : State) (m : Emptied s) where
   zeroed-room : length (s .transfer .host) ≤ 128
@@ -252,16 +256,16 @@ module _ (s : State) (m : Emptied s) where
   zeroed-mode = record { scsien = refl; dmaen = refl; spioen = refl }
 
   zeroed-write : (afterB s (Write 0x01 clearValue)) .registers .dmacntrl0 .write ≡ true
-  unfolding afterB applied registersB afterA registersA writes valueOf
-  zeroed-write = m .write
+  unfolding afterA registersA writes valueOf
+  zeroed-write = write-B s (Write 0x01 clearValue) (m .write)
 
   zeroed-A : ((afterA s (Write 0x01 clearValue)) .transfer .scsi ≡ []) × ((afterA s (Write 0x01 clearValue)) .transfer .offset ≡ 0)
   unfolding afterA transferA clrch writes valueOf
   zeroed-A = (refl, refl)
 
   zeroed-B : ((afterB s (Write 0x01 clearValue)) .transfer .host ≡ []) × ((afterB s (Write 0x01 clearValue)) .transfer .counter ≡ 0)
-  unfolding afterB applied transferB afterA transferA hostA counterA clrstcnt rstfifo writes valueOf portWrite asked
-  zeroed-B = (m .host, refl)
+  unfolding afterA transferA hostA counterA clrstcnt rstfifo writes valueOf portWrite asked
+  zeroed-B = (host-B s (Write 0x01 clearValue) ∙ m .host, counter-B s (Write 0x01 clearValue))
 
   after-zeroed : Zeroed ((step s (writeRecord SXFRCTL0 clearValue)) .state)
   after-zeroed =
@@ -271,7 +275,7 @@ module _ (s : State) (m : Emptied s) where
       let registers = after-registers s SXFRCTL0 clearValue plain-clear zeroed-room rest in
       record {
         host = rw transfer (zeroed-B .0);
-        scsi = rw transfer (scsi-B s 0x01 clearValue ∙ zeroed-A .0);
+        scsi = rw transfer (scsi-kept s 0x01 clearValue ∙ zeroed-A .0);
         counter = rw transfer (zeroed-B .1);
         offset = rw transfer (offset-B s 0x01 clearValue (zeroed-A .1));
         mode = rw registers mode;
@@ -293,8 +297,8 @@ module _ (s : State) (m : Zeroed s) where
   ready-mode = record { scsien = m .mode .scsien; dmaen = m .mode .dmaen; spioen = m .mode .spioen }
 
   ready-write : (afterB s (Write 0x03 signalValue)) .registers .dmacntrl0 .write ≡ true
-  unfolding afterB applied registersB afterA registersA writes valueOf
-  ready-write = m .write
+  unfolding afterA registersA writes valueOf
+  ready-write = write-B s (Write 0x03 signalValue) (m .write)
 
   ready-signals : ((afterA s (Write 0x03 signalValue)) .registers .scsisig .ioexp ≡ false) × ((afterA s (Write 0x03 signalValue)) .registers .scsisig .acko ≡ false)
   unfolding afterA registersA writes valueOf
@@ -305,8 +309,8 @@ module _ (s : State) (m : Zeroed s) where
   ready-A = (m .scsi, m .offset)
 
   ready-B : ((afterB s (Write 0x03 signalValue)) .transfer .host ≡ []) × ((afterB s (Write 0x03 signalValue)) .transfer .counter ≡ 0)
-  unfolding afterB applied transferB afterA transferA hostA counterA clrstcnt rstfifo automaticAck latchAccess writes reads valueOf portWrite asked
-  ready-B = (m .host, m .counter)
+  unfolding afterA transferA hostA counterA clrstcnt rstfifo automaticAck latchAccess writes reads valueOf portWrite asked
+  ready-B = (host-B s (Write 0x03 signalValue) ∙ m .host, counter-B s (Write 0x03 signalValue) ∙ m .counter)
 
   after-ready : Ready ((step s (writeRecord SCSISIGO signalValue)) .state)
   after-ready =
@@ -318,14 +322,14 @@ module _ (s : State) (m : Zeroed s) where
         zeroed =
             record {
               host = rw transfer (ready-B .0);
-              scsi = rw transfer (scsi-B s 0x03 signalValue ∙ ready-A .0);
+              scsi = rw transfer (scsi-kept s 0x03 signalValue ∙ ready-A .0);
               counter = rw transfer (ready-B .1);
               offset = rw transfer (offset-B s 0x03 signalValue (ready-A .1));
               mode = rw registers mode;
               write = rw registers ready-write;
             };
         ioexp = rw registers (ioexp-B s (Write 0x03 signalValue) (ready-signals .0));
-        acko = rw registers (acko-B s (Write 0x03 signalValue) (ready-signals .1));
+        acko = rw registers (acko-stays s (Write 0x03 signalValue) (ready-signals .1));
       }
 
 outward-path : (r : Registers) → r .dmacntrl0 .write ≡ true → r .sxfrctl0 .dmaen ≡ true → r .sxfrctl0 .spioen ≡ false → r .scsisig .ioexp ≡ false → path r ≡ true
@@ -338,8 +342,10 @@ module _ (s : State) (m : Ready s) where
   open-room = rw (m .zeroed .host) (omega arith)
 
   open-registers : ((afterB s (Write 0x01 openValue)) .registers .dmacntrl0 .write ≡ true) × ((afterB s (Write 0x01 openValue)) .registers .sxfrctl0 .dmaen ≡ true) × ((afterB s (Write 0x01 openValue)) .registers .sxfrctl0 .spioen ≡ false)
-  unfolding afterB applied registersB afterA registersA writes valueOf
-  open-registers = (m .zeroed .write, refl, refl)
+  unfolding afterA registersA writes valueOf
+  open-registers =
+      let e = Write 0x01 openValue in
+      (write-B s e (m .zeroed .write), ap (λ (a : Apart). a .dmaen) (b-leaves s e), ap (λ (a : Apart). a .spioen) (b-leaves s e))
 
   open-signals : ((afterA s (Write 0x01 openValue)) .registers .scsisig .ioexp ≡ false) × ((afterA s (Write 0x01 openValue)) .registers .scsisig .acko ≡ false)
   unfolding afterA registersA writes valueOf
@@ -350,12 +356,12 @@ module _ (s : State) (m : Ready s) where
   open-A = (m .zeroed .scsi, m .zeroed .offset)
 
   open-B : ((afterB s (Write 0x01 openValue)) .transfer .host ≡ []) × ((afterB s (Write 0x01 openValue)) .transfer .counter ≡ 0)
-  unfolding afterB applied transferB afterA transferA hostA counterA clrstcnt rstfifo automaticAck latchAccess writes reads valueOf portWrite asked
-  open-B = (m .zeroed .host, m .zeroed .counter)
+  unfolding afterA transferA hostA counterA clrstcnt rstfifo automaticAck latchAccess writes reads valueOf portWrite asked
+  open-B = (host-B s (Write 0x01 openValue) ∙ m .zeroed .host, counter-B s (Write 0x01 openValue) ∙ m .zeroed .counter)
 
   after-open : Starts true ((step s (writeRecord SXFRCTL0 openValue)) .state)
   after-open =
-      let scsi = scsi-B s 0x01 openValue ∙ open-A .0 in
+      let scsi = scsi-kept s 0x01 openValue ∙ open-A .0 in
       let rest = empty-settles s (Write 0x01 openValue) (open-registers .0) (open-B .0) scsi in
       let transfer = after-transfer s SXFRCTL0 openValue plain-open open-room rest in
       let registers = after-registers s SXFRCTL0 openValue plain-open open-room rest in
@@ -364,7 +370,7 @@ module _ (s : State) (m : Ready s) where
         scsi = rw transfer scsi;
         counter = rw transfer (open-B .1);
         offset = rw transfer (offset-B s 0x01 openValue (open-A .1));
-        acko = rw registers (acko-B s (Write 0x01 openValue) (open-signals .1));
+        acko = rw registers (acko-stays s (Write 0x01 openValue) (open-signals .1));
         opened =
             rw registers
             (outward-path ((afterB s (Write 0x01 openValue)) .registers) (open-registers .0) (open-registers .1) (open-registers .2)

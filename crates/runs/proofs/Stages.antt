@@ -1,8 +1,8 @@
 -- What an event that a run allows leaves of the registers and of the data path before settling.
-use mathlib.Core.Path.{_≡_, refl, sym, _∙_}
+use mathlib.Core.Path.{_≡_, refl, sym, ap, _∙_}
 use mathlib.Core.Bool.{Bool, true, false, not, _&&_, _||_, cond, Bool·beq, and-false}
-use mathlib.Core.List.{[], _++_, append-nil}
-use Prim.Native.Nat.{_+_, _≤_}
+use mathlib.Core.List.{List, [], _++_, append-nil}
+use Prim.Native.Nat.{ℕ, _+_, _≤_}
 use lib.Dec.{eqb}
 use lib.ListN.{length, drop, length-append}
 use borrow.Author.Tests.{not-true, ltb-false}
@@ -12,14 +12,15 @@ use Rattle.rules.specs.Seen.{ioSeen, automatic, normal, matched, path}
 use Rattle.rules.specs.Events.{writes, valueOf, offered, asked, wide, portWrite, portRead}
 use Rattle.rules.specs.Codes.{shut, noRoom}
 use Rattle.rules.specs.StepA.{clrstcnt, clrch, rstfifo, automaticAck, registersA, hostA, counterA, transferA, afterA}
-use Rattle.rules.specs.StepB.{synchronousReq, registersB, edges, transferB, applied, edgesOf, afterB}
+use Rattle.rules.specs.StepB.{ackReleased, busReset, reqRises, synchronousReq, countedReq, storedByte, reqRisen, busFreed, phaseChanged, atReq, afterB}
 use Rattle.rules.specs.declared.registers.Registers.{Registers}
 use Rattle.rules.specs.declared.registers.Sxfrctl0.{Sxfrctl0}
 use Rattle.rules.specs.declared.map.Register.the-variants.{SXFRCTL0}
 use Rattle.rules.specs.declared.records.Event.{Event}
 use Rattle.rules.specs.declared.records.Event.the-variants.{PowerReset, Write, Read, WordWrite, WordRead, Drive, Ticks}
+use Rattle.rules.proofs.InOrder.{Keeps, b-keeps, Apart, b-leaves, req-leaves, scsi-b}
 use Rattle.rules.proofs.Logic.{never, left-true}
-use Rattle.runs.specs.Run.{Starts}
+use Rattle.runs.specs.Run.{Starts, tookAtReq}
 use Rattle.runs.proofs.Spared.{Spared}
 use Rattle.runs.proofs.Access.{Passed}
 
@@ -55,37 +56,47 @@ held-A w r e s h =
       acko = rw (s .signals) (h .acko);
     }
 
-held-B : (w reset bad free : Bool) (r : Registers) → Held w r → Held w (registersB reset bad free r)
-unfolding registersB
-held-B w reset bad free r h =
-    record { direction = h .direction; spioen = h .spioen; acko = rw (h .acko) (and-false (not (reset || free))) }
+held-B : (w : Bool) → Keeps (λ n. Held w (n .registers))
+unfolding ackReleased busReset reqRisen busFreed phaseChanged
+held-B w =
+    record {
+      released = λ n h. h;
+      reset = λ n h. record { direction = h .direction; spioen = h .spioen; acko = refl };
+      risen = λ n h. record { direction = h .direction; spioen = h .spioen; acko = h .acko };
+      counted = λ n ticks h. h;
+      freed = λ n h. record { direction = h .direction; spioen = h .spioen; acko = refl };
+      changed = λ n h. h;
+    }
 
 pub held-after : (w : Bool) (s : State) (e : Event) → Spared e → Held w (s .registers) → Held w ((afterB s e) .registers)
-unfolding afterB applied afterA
-held-after w s e p h = held-B w _ _ _ (registersA (s .registers) e) (held-A w (s .registers) e p h)
+unfolding afterA
+held-after w s e p h = b-keeps (λ n. Held w (n .registers)) (held-B w) s e (held-A w (s .registers) e p h)
 
 -- the direction is the same after A as after B
 pub write-A : (s : State) (e : Event) → (afterA s e) .registers .dmacntrl0 .write ≡ (afterB s e) .registers .dmacntrl0 .write
-unfolding afterB applied registersB
-write-A s e = refl
+write-A s e = sym (ap (λ (a : Apart). a .control .write) (b-leaves s e))
+
+pub spioen-A : (s : State) (e : Event) → (afterB s e) .registers .sxfrctl0 .spioen ≡ (afterA s e) .registers .sxfrctl0 .spioen
+spioen-A s e = ap (λ (a : Apart). a .spioen) (b-leaves s e)
 
 -- outbound no REQ stores a byte: it is matched only with IO not seen
-pub spioen-A : (s : State) (e : Event) → (afterB s e) .registers .sxfrctl0 .spioen ≡ (afterA s e) .registers .sxfrctl0 .spioen
-unfolding afterB applied registersB
-spioen-A s e = refl
-
-pub outbound-stores-none : (s : State) (e : Event) → (afterB s e) .registers .dmacntrl0 .write ≡ true → (edgesOf s e) .stored ≡ false
-unfolding edgesOf edges synchronousReq matched path
-outbound-stores-none s e h =
-    go (ioSeen ((afterA s e) .registers) ((afterA s e) .lines)) ((afterA s e) .registers .scsisig .ioexp) refl refl
+outbound-byte : (n : State) → n .registers .dmacntrl0 .write ≡ true → storedByte n ≡ []
+unfolding storedByte countedReq synchronousReq matched path
+outbound-byte n w = go (ioSeen (n .registers) (n .lines)) (n .registers .scsisig .ioexp) refl refl
   where
-    w : (afterA s e) .registers .dmacntrl0 .write ≡ true
-    w = write-A s e ∙ h
-
-    go : (i x : Bool) → ioSeen ((afterA s e) .registers) ((afterA s e) .lines) ≡ i → (afterA s e) .registers .scsisig .ioexp ≡ x → (edgesOf s e) .stored ≡ false
+    go : (i x : Bool) → ioSeen (n .registers) (n .lines) ≡ i → n .registers .scsisig .ioexp ≡ x → storedByte n ≡ []
     go false x q k = simp (q, and-false)
     go true true q k = simp (q, k, w, and-false)
     go true false q k = simp (q, k, and-false)
+
+none-either : (b : Bool) → _≡_ {A = List ℕ} (cond b [] []) []
+none-either true = refl
+none-either false = refl
+
+pub outbound-stores-none : (s : State) (e : Event) → (afterB s e) .registers .dmacntrl0 .write ≡ true → tookAtReq s e ≡ []
+unfolding tookAtReq
+outbound-stores-none s e h =
+    rw (outbound-byte (atReq s e) (ap (λ (a : Apart). a .control .write) (req-leaves s e) ∙ write-A s e ∙ h)) (none-either (reqRises s (atReq s e)))
 
 -- with SPIOEN 0 there is no Automatic ACK
 pub no-automatic-ack : (s : State) (e : Event) → s .registers .sxfrctl0 .spioen ≡ false → automaticAck s e ≡ false
@@ -94,8 +105,9 @@ no-automatic-ack s e h = simp (h, and-false)
 
 -- the counter stays until settling
 pub counter-before : (s : State) (e : Event) → Spared e → s .registers .sxfrctl0 .spioen ≡ false → (afterB s e) .transfer .counter ≡ s .transfer .counter
-unfolding afterB applied transferB afterA transferA counterA
-counter-before s e p h = rw (p .clrstcnt, p .low, p .middle, p .high, no-automatic-ack s e h)
+unfolding afterA transferA counterA
+counter-before s e p h =
+    ap (λ (a : Apart). a .counter) (b-leaves s e) ∙ rw (p .clrstcnt, p .low, p .middle, p .high, no-automatic-ack s e h)
 
 -- no write to 352h: RSTFIFO does not act
 no-rstfifo : (e : Event) → Spared e → rstfifo e ≡ false
@@ -153,10 +165,14 @@ offers-none WordRead h = refl
 offers-none (Drive lines) h = refl
 offers-none (Ticks n) h = refl
 
+-- B leaves the host FIFO
+pub host-B : (s : State) (e : Event) → (afterB s e) .transfer .host ≡ (afterA s e) .transfer .host
+host-B s e = ap (λ (a : Apart). a .host) (b-leaves s e)
+
 -- outbound the host FIFO gets what is offered, inbound it gives what is asked
 pub host-outbound : (s : State) (e : Event) → Spared e → s .registers .dmacntrl0 .write ≡ true → Passed s e → (afterB s e) .transfer .host ≡ s .transfer .host ++ offered e
-unfolding afterB applied transferB afterA transferA hostA
-host-outbound s e p w k = rw (no-rstfifo e p) (go (portWrite e) refl)
+unfolding afterA transferA hostA
+host-outbound s e p w k = host-B s e ∙ rw (no-rstfifo e p) (go (portWrite e) refl)
   where
     go : (b : Bool) → portWrite e ≡ b → cond b (s .transfer .host ++ offered e) (drop (asked e) (s .transfer .host)) ≡ s .transfer .host ++ offered e
     go true q = refl
@@ -164,13 +180,18 @@ host-outbound s e p w k = rw (no-rstfifo e p) (go (portWrite e) refl)
         rw (asks-none e (no-port-read (s .registers) e w (k .unshut)), offers-none e q) (sym (append-nil (s .transfer .host)))
 
 pub host-inbound : (s : State) (e : Event) → Spared e → s .registers .dmacntrl0 .write ≡ false → Passed s e → (afterB s e) .transfer .host ≡ drop (asked e) (s .transfer .host)
-unfolding afterB applied transferB afterA transferA hostA
-host-inbound s e p w k = rw (no-rstfifo e p, no-port-write (s .registers) e w (k .unshut))
+unfolding afterA transferA hostA
+host-inbound s e p w k = host-B s e ∙ rw (no-rstfifo e p, no-port-write (s .registers) e w (k .unshut))
 
--- no CLRCH: the SCSI FIFO stays until settling, but for a byte that a REQ stores
-pub scsi-before : (s : State) (e : Event) → Spared e → (edgesOf s e) .stored ≡ false → (afterB s e) .transfer .scsi ≡ s .transfer .scsi
-unfolding afterB applied transferB afterA transferA
-scsi-before s e p h = rw (h, p .clrch)
+-- the SCSI FIFO gets the byte that a REQ stores
+pub scsi-B : (s : State) (e : Event) → (afterB s e) .transfer .scsi ≡ (afterA s e) .transfer .scsi ++ tookAtReq s e
+unfolding tookAtReq
+scsi-B s e = scsi-b s e
+
+-- no CLRCH: but for that byte it stays until settling
+pub scsi-before : (s : State) (e : Event) → Spared e → tookAtReq s e ≡ [] → (afterB s e) .transfer .scsi ≡ s .transfer .scsi
+unfolding afterA transferA
+scsi-before s e p h = scsi-B s e ∙ rw (h, p .clrch) (append-nil (s .transfer .scsi))
 
 -- the host FIFO has room for what is offered
 pub offered-fits : (s : State) (e : Event) → Passed s e → length (s .transfer .host ++ offered e) ≤ 128

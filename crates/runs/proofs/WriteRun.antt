@@ -14,7 +14,7 @@ use Rattle.rules.specs.StepB.{afterB}
 use Rattle.rules.specs.StepC.{conditions, started, turns, settledC}
 use Rattle.rules.specs.StepD.{finished, afterD}
 use Rattle.rules.specs.Answers.{Stepped}
-use Rattle.rules.specs.Step.{refused, done, step, after}
+use Rattle.rules.specs.Step.{ended, refused, done, step, after}
 use Rattle.rules.specs.declared.codes.Code.{Code}
 use Rattle.rules.specs.declared.records.Event.{Event}
 use Rattle.rules.specs.declared.records.Decoded.{Decoded}
@@ -72,7 +72,7 @@ module _ (s : State) (a b : List ℕ) (i : WriteMoment s a b) where
   Next d r = WriteMoment (r .state) (a ++ unlessRefused offered d (r .code)) (b ++ r .sent)
 
   next-refused : (d : Decoded) (code : Code) (value : ℕ) → isRefusal code ≡ true → Next d (refused s code value)
-  unfolding refused
+  unfolding ended
   next-refused d code value q = rw (q, append-nil a, append-nil b) i
 
   next-done : (e : Event) → runAllows e ≡ true → isDone (accessCode s e) ≡ true → Next (Well e) (done s e)

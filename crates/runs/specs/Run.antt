@@ -8,11 +8,10 @@ use lib.ListN.{take, replicate}
 use Rattle.rules.specs.Numbers.{bit}
 use Rattle.rules.specs.Map.{offsetOf}
 use Rattle.rules.specs.State.{State}
-use Rattle.rules.specs.Seen.{path, dataSeen}
+use Rattle.rules.specs.Seen.{path}
 use Rattle.rules.specs.Records.{decode}
 use Rattle.rules.specs.Events.{offered, asked}
-use Rattle.rules.specs.StepA.{afterA}
-use Rattle.rules.specs.StepB.{edgesOf, afterB}
+use Rattle.rules.specs.StepB.{reqRises, storedByte, atReq, afterB}
 use Rattle.rules.specs.StepC.{conditions, settledC}
 use Rattle.rules.specs.Step.{step}
 use Rattle.rules.specs.declared.map.Register.the-variants.{SXFRCTL0, CLRSINT0, CLRSINT1, SIMODE0, SIMODE1, DMACNTRL1, DMADATA, STACK}
@@ -70,9 +69,7 @@ lowBytes n value = take n (value % 256 ∷ value / 256 % 256 ∷ [])
 
 -- "what the chip took": in B the data seen with a synchronous REQ, where it is stored
 unfoldable pub tookAtReq : State → Event → List ℕ
-tookAtReq s e =
-    let a = afterA s e in
-    cond ((edgesOf s e) .stored) (dataSeen (a .registers) (a .lines) (a .transfer) ∷ []) []
+tookAtReq s e = cond (reqRises s (atReq s e)) (storedByte (atReq s e)) []
 
 -- and in C the data seen, once for each asynchronous inbound handshake
 unfoldable pub tookByHandshakes : State → Event → List ℕ

@@ -9,7 +9,7 @@ use Rattle.rules.specs.Seen.{rstSeen, reqSeen, mismatched}
 use Rattle.rules.specs.Registers.{simode0Of, simode1Of}
 use Rattle.rules.specs.Codes.{accessCode, isDone, refusedValue}
 use Rattle.rules.specs.Ranges.{InRange, InBytes, EventFits, DecodedFits}
-use Rattle.rules.specs.Step.{refused, done, access, stepEvent, stepDecoded}
+use Rattle.rules.specs.Step.{ended, refused, done, access, stepEvent, stepDecoded}
 use Rattle.rules.specs.Answers.{Stepped}
 use Rattle.rules.specs.declared.codes.Code.{Code}
 use Rattle.rules.specs.declared.codes.Code.the-variants.{Done, Malformed}
@@ -46,7 +46,7 @@ access-refused s e h = rw h
 
 -- a refusal, or a power reset
 refused-leaves : (s : State) {code : Code} {value : ℕ} {m : List ℕ} {c : Code} {v : ℕ} → m ≡ imageOf s → c ≡ code → v ≡ value → Leaves (refused s code value) m (endedAs c v)
-unfolding refused padded
+unfolding ended padded
 refused-leaves s i c v = record { image = i; code = c; value = v; moves = refl; acks = refl; sent = refl }
 
 pub leaves-as : {x y : Stepped} {m : List ℕ} {o : Outcome} → x ≡ y → Leaves x m o → Leaves y m o

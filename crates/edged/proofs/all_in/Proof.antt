@@ -1,6 +1,6 @@
 use borrow.Author.Needs.{needs}
 use mathlib.Core.Path.{ap, sym, subst, _∙_}
-use Rattle.rules.specs.declared.chip.Edges.{Edges}
+use Rattle.edged.specs.declared.edges.Edges.{Edges}
 use Rattle.image.specs.Image.{imageOf, stateAt}
 use Rattle.edged.specs.From.{appliedFrom}
 use Rattle.edged.specs.Room.{Room}

@@ -1,7 +1,7 @@
 use borrow.Author.Needs.{needs}
 use mathlib.Core.Path.{ap, _∙_}
 use Rattle.image.specs.Image.{scsisigByte}
-use Rattle.rules.specs.StepB.{scsisigB}
+use Rattle.edged.specs.Parts.{scsisigB}
 use Rattle.rules.specs.declared.registers.Scsisig.{Scsisig}
 use Rattle.edged.proofs.after.scsisig_after.Statement.{statement}
 use Rattle.edged.proofs.after.scsisig_after.Tie as tie

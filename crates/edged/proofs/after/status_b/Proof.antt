@@ -1,5 +1,5 @@
 use borrow.Author.Needs.{needs}
-use Rattle.rules.specs.StepB.{statusB}
+use Rattle.edged.specs.Parts.{statusB}
 use Rattle.edged.proofs.after.status_b.Statement.{statement}
 use Rattle.edged.proofs.after.status_b.Tie as tie
 

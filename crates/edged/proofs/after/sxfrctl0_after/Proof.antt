@@ -1,7 +1,7 @@
 use borrow.Author.Needs.{needs}
 use mathlib.Core.Path.{ap, _∙_}
 use Rattle.rules.specs.Registers.{sxfrctl0Byte}
-use Rattle.rules.specs.StepB.{sxfrctl0B}
+use Rattle.edged.specs.Parts.{sxfrctl0B}
 use Rattle.rules.specs.declared.registers.Sxfrctl0.{Sxfrctl0}
 use Rattle.edged.proofs.after.sxfrctl0_after.Statement.{statement}
 use Rattle.edged.proofs.after.sxfrctl0_after.Tie as tie
