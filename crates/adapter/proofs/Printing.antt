@@ -8,7 +8,7 @@ use lib.Seq.{take-at}
 use Rattle.rules.specs.Chips.{view, chipOf}
 use Rattle.rules.specs.Step.{after, answers}
 use Rattle.rules.specs.declared.chip.Chip.{Chip}
-use Rattle.lines.specs.Hex as hex
+use Rattle.hex.specs.Hex as hex
 use Rattle.step.specs.declared.Ran.{Ran}
 use Rattle.step.specs.Runs.{IsRun, recordsOf, steppedIn, recordsIn, joined}
 use Rattle.adapter.specs.Texts.{stepped, answered, printed, IsPrinted}

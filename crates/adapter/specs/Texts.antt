@@ -7,7 +7,7 @@ use lib.ListN.{length, take, drop, getD}
 use Rattle.rules.specs.Chips.{view, chipOf}
 use Rattle.rules.specs.Step.{after, answers}
 use Rattle.rules.specs.declared.chip.Chip.{Chip}
-use Rattle.lines.specs.Hex.{linesOf}
+use Rattle.hex.specs.Hex.{linesOf}
 use Rattle.step.specs.Runs.{recordsOf, recordsIn, joined}
 use Rattle.adapter.specs.declared.Printed.{Printed}
 use Rattle.adapter.specs.declared.Received.{Received}

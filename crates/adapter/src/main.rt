@@ -33,7 +33,7 @@ fn print(c: Chip, records: &[u8], answers: &mut [u8], text: &mut [u8]) -> Printe
     ensures { λ _. ⌜ now (answers .exit) ≡ answered c (now (records .entry)) ++ drop (16 * stepped (now (records .entry))) (now (answers .entry)) ⌝ }
 {
     let ran = step::run::run(c, records, answers);
-    let size = lines::print(&answers[..16 * ran.count], text);
+    let size = hex::print(&answers[..16 * ran.count], text);
     let chip = ran.chip;
     Printed {
         chip: chip,

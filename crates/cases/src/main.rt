@@ -1,4 +1,4 @@
 // The worked cases of the documents, on the proved step.
 fn main() {
-    agree::run();
+    stored::run();
 }

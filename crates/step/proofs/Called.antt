@@ -17,10 +17,10 @@ use Rattle.rules.specs.declared.codes.Code.the-variants.{Malformed}
 use Rattle.rules.proofs.Ranges.{step-fits, step-bytes}
 use Rattle.image.specs.Image.{imageOf, stateAt, IsImage}
 use Rattle.image.proofs.ReadBack.{read-back}
-use Rattle.kept.specs.Parts.{Stored}
-use Rattle.acted.proofs.Going.{image-is, state-is}
-use Rattle.turns.specs.Given.{Gives}
-use Rattle.turns.specs.declared.event.Reply.{Reply}
+use Rattle.chips.specs.Parts.{Stored}
+use Rattle.effects.proofs.Going.{image-is, state-is}
+use Rattle.event.specs.Given.{Gives}
+use Rattle.event.specs.declared.stepping.Reply.{Reply}
 use Rattle.step.specs.declared.Returned.{Returned}
 use Rattle.step.specs.Outcomes.{returnedOf, IsStep}
 use Rattle.step.proofs.Parts.{tidy-of, view-of}

@@ -13,9 +13,9 @@ use Rattle.rules.specs.Step.{step, answer, after, answers}
 use Rattle.rules.proofs.Ranges.{StepFits, step-fits, after-fits, after-bytes}
 use Rattle.laws.proofs.Lists.{padded-length, take-clamped}
 use Rattle.image.specs.Image.{imageOf, stateAt, IsImage}
-use Rattle.acted.proofs.Going.{image-is, state-is}
-use Rattle.turns.specs.Given.{Gives}
-use Rattle.turns.specs.declared.event.Reply.{Reply}
+use Rattle.effects.proofs.Going.{image-is, state-is}
+use Rattle.event.specs.Given.{Gives}
+use Rattle.event.specs.declared.stepping.Reply.{Reply}
 use Rattle.step.specs.Runs.{recordAt, recordsOf, joined, IsTurn}
 
 records-next : (i : ℕ) (l : List ℕ) → recordsOf (suc i) l ≡ recordsOf i l ++ (recordAt i l ∷ [])

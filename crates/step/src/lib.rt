@@ -11,7 +11,7 @@ pub mod run;
 use crate::answers::store_at;
 use rules::chip::Chip;
 use rules::codes::Code;
-use turns::event::stepped;
+use event::stepping::stepped;
 
 // What a call returns.
 pub struct Returned {
@@ -32,11 +32,11 @@ fn stepped_over(c: Chip, bytes: &[u8], answer: &mut [u8]) -> Returned
     ensures { λ r. ⌜ IsStep c (now (bytes .entry)) (now (answer .entry)) (now (answer .exit)) r ⌝ }
 {
     let mut m = [0u8; 196];
-    kept::store(c, &mut m);
+    chips::store(c, &mut m);
     let reply = stepped(&mut m, bytes);
     let b = reply.answer;
     store_at(b, answer, 0);
-    let chip = kept::load(&m);
+    let chip = chips::load(&m);
     let code = reply.code;
     Returned {
         chip: chip,

@@ -8,7 +8,7 @@ use crate::Ran;
 use crate::answers::store_at;
 use crate::reset::tidied;
 use rules::chip::Chip;
-use turns::event::stepped;
+use event::stepping::stepped;
 
 fn smaller(a: usize, b: usize) -> usize
     ensures { λ r. ⌜ r ≡ min a b ⌝ }
@@ -37,11 +37,11 @@ pub fn run(c: Chip, records: &[u8], answers: &mut [u8]) -> Ran
     let n = smaller((records.len() + 3) / 4, answers.len() / 16);
     let chip = tidied(c);
     let mut m = [0u8; 196];
-    kept::store(chip, &mut m);
+    chips::store(chip, &mut m);
     for i in 0..n {
         turn(&mut m, records, answers, i);
     }
-    let last = kept::load(&m);
+    let last = chips::load(&m);
     Ran {
         chip: last,
         count: n,

@@ -1,0 +1,99 @@
+-- The array after all its places were stored, one run of bytes after another, is the image.
+use Prim.Native.Nat.{ℕ, _+_, _≤_, _<_}
+use mathlib.Core.Path.{_≡_, refl, ap, sym, subst, _∙_}
+use mathlib.Core.List.{List, [], _++_}
+use native.Mathlib.Omega.{arith}
+use lib.ListN.{length, take, drop, length-append}
+use lib.Seq.{sets, length-sets, sets-eq, take-at, take-all, length-take-le, take-paste, length-paste}
+use Rattle.rules.specs.Chips.{view, chipOf, pathOf, registersView, pathView, stackView}
+use Rattle.rules.specs.State.{State}
+use Rattle.rules.specs.Ranges.{Tidy, RegistersFit, RegistersBytes, Bytes, InBytes}
+use Rattle.rules.specs.declared.chip.Chip.{Chip}
+use Rattle.rules.proofs.Ranges.{bytes-take}
+use Rattle.laws.proofs.Chips.{tidy-registers, tidy-host, tidy-scsi}
+use Rattle.image.specs.Image.{imageOf}
+use Rattle.chips.specs.Parts.{registersBytes, flagsBytes, numbersBytes, countsBytes, Placed}
+
+-- the first k bytes are in their places
+pub record Filled (m : List ℕ) (k : ℕ) (p : List ℕ) : Type 0 where
+  pub size : length m ≡ 196
+  pub front : take k m ≡ p
+
+pub none : (m : List ℕ) → length m ≡ 196 → Filled m 0 []
+none m e = record { size = e; front = refl }
+
+module _ {m : List ℕ} {k : ℕ} {p : List ℕ} (f : Filled m k p) where
+  -- by stores
+  pub stored : (vs : List ℕ) {after : List ℕ} → k + length vs ≤ 196 → after ≡ sets m k vs → Filled after (k + length vs) (p ++ vs)
+  stored vs h e =
+      let s : sets m k vs ≡ take k m ++ vs ++ drop (k + length vs) m = sets-eq vs m k (omega arith) in
+      let n : length (take k m) ≡ k = length-take-le k m (omega arith) in
+      let l : length (take k m ++ vs) ≡ k + length vs = simp length-append (omega arith) in
+      record {
+        size = rw e (length-sets m k vs ∙ f .size);
+        front = rw (e, s) (take-at (take k m ++ vs) (drop (k + length vs) m) (k + length vs) l ∙ ap (λ (q : List ℕ). q ++ vs) (f .front));
+      }
+
+  -- by a copy
+  pub copied : {s : List ℕ} {n : ℕ} {after : List ℕ} → k + n ≤ 196 → Placed m k s n after → Filled after (k + n) (p ++ s)
+  copied {s} {n} h c =
+      let all : take n s ≡ s = take-all n s (omega arith) in
+      record {
+        size = rw (c .placed) (length-paste m k s n (omega arith) (omega arith) ∙ f .size);
+        front = rw (c .placed) (take-paste m k s n (omega arith) (omega arith) ∙ ap (λ (q : List ℕ). q ++ take n s) (f .front) ∙ ap (λ (q : List ℕ). p ++ q) all);
+      }
+
+pub whole : {m p : List ℕ} → Filled m 196 p → m ≡ p
+whole {m} f = sym (take-all 196 m (omega arith)) ∙ f .front
+
+-- the bytes of a chip value in the order of the stores
+abbrev pub bytesOf : Chip → List ℕ
+bytesOf c =
+    registersBytes (c .registers)
+    ++ flagsBytes (c .status) (c .latches) (c .lines)
+    ++ numbersBytes (c .path .offset) (c .path .ack) (c .path .last) (c .quiet) (c .identity) (c .stack .pointer)
+    ++ countsBytes (c .path .scsi .count) (c .path .host .count) (c .path .counter)
+    ++ c .path .scsi .bytes
+    ++ c .stack .bytes
+    ++ c .path .host .bytes
+
+of-state : (s : State) → bytesOf (chipOf s) ≡ imageOf s
+unfolding chipOf pathOf imageOf
+of-state s = refl
+
+module _ (c : Chip) (t : Tidy c) where
+  pub of-chip : bytesOf c ≡ imageOf (view c)
+  of-chip = ap bytesOf (t .packed) ∙ of-state (view c)
+
+  pub registers-fit : RegistersFit (c .registers)
+  registers-fit = subst RegistersFit (sym (tidy-registers c t)) (t .range .registers)
+
+  pub counts-fit : (c .path .scsi .count < 256) × (c .path .host .count < 256)
+  counts-fit = (omega (arith, tidy-scsi c t, t .range .transfer .scsi), omega (arith, tidy-host c t, t .range .transfer .host))
+
+  -- the array after each of the seven calls
+  pub all-stored : (m : List ℕ) {m1 m2 m3 m4 m5 m6 m7 : List ℕ} → m1 ≡ sets m 0 (registersBytes (c .registers)) → m2 ≡ sets m1 12 (flagsBytes (c .status) (c .latches) (c .lines)) → m3 ≡ sets m2 17 (numbersBytes (c .path .offset) (c .path .ack) (c .path .last) (c .quiet) (c .identity) (c .stack .pointer)) → m4 ≡ sets m3 23 (countsBytes (c .path .scsi .count) (c .path .host .count) (c .path .counter)) → Placed m4 28 (c .path .scsi .bytes) 8 m5 → Placed m5 36 (c .stack .bytes) 32 m6 → Placed m6 68 (c .path .host .bytes) 128 m7 → m7 ≡ imageOf (view c)
+  all-stored m {m1} {m2} {m3} {m4} e1 e2 e3 e4 p5 p6 p7 =
+      let l1 : length m1 ≡ length m = rw e1 (length-sets m 0 (registersBytes (c .registers))) in
+      let l2 : length m2 ≡ length m1 = rw e2 (length-sets m1 12 (flagsBytes (c .status) (c .latches) (c .lines))) in
+      let l3 : length m3 ≡ length m2 =
+      rw e3 (length-sets m2 17 (numbersBytes (c .path .offset) (c .path .ack) (c .path .last) (c .quiet) (c .identity) (c .stack .pointer)))
+      in
+      let l4 : length m4 ≡ length m3 = rw e4 (length-sets m3 23 (countsBytes (c .path .scsi .count) (c .path .host .count) (c .path .counter))) in
+      let f0 : Filled m 0 [] = none m (omega (arith, p5 .size)) in
+      let f1 = stored f0 (registersBytes (c .registers)) (omega arith) e1 in
+      let f2 = stored f1 (flagsBytes (c .status) (c .latches) (c .lines)) (omega arith) e2 in
+      let f3 = stored f2 (numbersBytes (c .path .offset) (c .path .ack) (c .path .last) (c .quiet) (c .identity) (c .stack .pointer)) (omega arith) e3 in
+      let f4 = stored f3 (countsBytes (c .path .scsi .count) (c .path .host .count) (c .path .counter)) (omega arith) e4 in
+      whole (copied (copied (copied f4 (omega arith) p5) (omega arith) p6) (omega arith) p7) ∙ of-chip
+
+  -- every byte that was stored is one
+  pub in-bytes : RegistersBytes (c .registers) → c .lines .byte < 256 → c .path .last < 256 → Bytes (c .path .scsi .bytes) → Bytes (c .stack .bytes) → Bytes (c .path .host .bytes) → InBytes (view c)
+  unfolding view registersView pathView stackView
+  in-bytes r l a scsi stack host =
+      record {
+        lines = l;
+        registers = record { scsidat = r .scsidat; brstcntrl = r .brstcntrl };
+        transfer = record { last = a; host = bytes-take (c .path .host .count) (c .path .host .bytes) host; scsi = bytes-take (c .path .scsi .count) (c .path .scsi .bytes) scsi };
+        stack = stack;
+      }

@@ -1,0 +1,38 @@
+use borrow.Author.Needs.{needs}
+use lib.ListN.{getD}
+use Rattle.rules.specs.Chips.{chipOf}
+use Rattle.image.specs.Image.{stateAt}
+use Rattle.chips.proofs.load.Statement.{statement}
+use Rattle.chips.proofs.load.Tie as tie
+
+returns : tie.Need-returns
+unfolding chipOf stateAt
+returns c =
+    let m = c .before .before .before .before .before .before .before .before .before .before .args .m .now in
+    λ i.
+    record {
+      lines = c .before .before .before .before .before .before .before .before .before .lines-at .ensures i;
+      registers = c .before .before .before .before .before .before .before .before .registers-at .ensures i;
+      path = c .before .before .before .before .before .before .before .path-at .ensures i;
+      status = c .before .before .before .before .before .status-of .ensures i;
+      latches = c .before .before .before .latches-of .ensures i;
+      stack = c .before .before .stack-at .ensures i;
+      quiet = getD m 20 0;
+      identity = getD m 21 0;
+    }
+
+pub load-spec : {M : Type 1} → statement M
+load-spec =
+    tie.close
+    (tie.spec
+    (λ c κs. search needs)
+    (λ c κs. search needs)
+    (λ c κs. c .before .before .pre)
+    (λ c. search needs)
+    (λ c κs. search needs)
+    (λ c. search needs)
+    (λ c κs. search needs)
+    (λ c κs. search needs)
+    (λ c. search needs)
+    (λ c. search needs)
+    returns)

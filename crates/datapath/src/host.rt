@@ -1,0 +1,60 @@
+// The host FIFO of an image: its count at 24, its bytes from 68 on, oldest first, 0 past the count.
+ghost use mathlib.Core.Path.{_≡_};
+ghost use mathlib.Core.List.{[], _∷_, _++_};
+ghost use Prim.Native.Nat.{_+_, _%_, _/_, _<_, _≤_};
+ghost use lib.ListN.{getD, set, drop};
+ghost use Rattle.image.specs.Image.{imageOf, stateAt, IsImage};
+ghost use Rattle.datapath.specs.Ready.{withHost};
+use image::copies::copied;
+use image::copies::zeroed;
+
+// One byte more.
+fn push(m: &mut [u8; 196], b: u8)
+    requires { ⌜ getD (now m) 24 0 < 128 ⌝ }
+    ensures { λ _. ⌜ now (m .exit) ≡ set (set (now (m .entry)) (68 + getD (now (m .entry)) 24 0) b) 24 (getD (now (m .entry)) 24 0 + 1) ⌝ }
+{
+    let n = m[24];
+    let at = n as usize;
+    m[68 + at] = b;
+    m[24] = n + 1;
+}
+
+pub fn host_pushed(m: &mut [u8; 196], b: u8)
+    requires { ⌜ IsImage (now m) ⌝ }
+    requires { ⌜ getD (now m) 24 0 < 128 ⌝ }
+    ensures { λ _. ⌜ now (m .exit) ≡ imageOf (withHost ((stateAt (now (m .entry))) .transfer .host ++ (b ∷ [])) (stateAt (now (m .entry)))) ⌝ }
+{
+    push(m, b);
+}
+
+// "A word's low byte comes first."
+pub fn word_pushed(m: &mut [u8; 196], word: u16)
+    requires { ⌜ IsImage (now m) ⌝ }
+    requires { ⌜ getD (now m) 24 0 < 127 ⌝ }
+    ensures { λ _. ⌜ now (m .exit) ≡ imageOf (withHost ((stateAt (now (m .entry))) .transfer .host ++ (word % 256 ∷ word / 256 ∷ [])) (stateAt (now (m .entry)))) ⌝ }
+{
+    push(m, (word % 256) as u8);
+    push(m, (word / 256) as u8);
+}
+
+// The rest moved down over the k oldest, and zeros behind it.
+pub fn host_popped(m: &mut [u8; 196], k: usize)
+    requires { ⌜ IsImage (now m) ⌝ }
+    requires { ⌜ k ≤ getD (now m) 24 0 ⌝ }
+    ensures { λ _. ⌜ now (m .exit) ≡ imageOf (withHost (drop k ((stateAt (now (m .entry))) .transfer .host)) (stateAt (now (m .entry)))) ⌝ }
+{
+    let n = m[24] as usize;
+    let rest = n - k;
+    copied(m, 68 + k, 68, rest);
+    zeroed(m, 68 + rest, k);
+    m[24] = rest as u8;
+}
+
+// "RSTFIFO empties the host FIFO."
+pub fn host_emptied(m: &mut [u8; 196])
+    requires { ⌜ IsImage (now m) ⌝ }
+    ensures { λ _. ⌜ now (m .exit) ≡ imageOf (withHost [] (stateAt (now (m .entry)))) ⌝ }
+{
+    let n = m[24] as usize;
+    host_popped(m, n);
+}

@@ -1,0 +1,101 @@
+-- DEMAND 3 of every trace, and so of the calls of step::step, step::run::run and host::rabenteig_run.
+use mathlib.Core.Path.{_≡_, refl, ap, sym, _∙_, subst}
+use mathlib.Core.Bool.{Bool, true, false}
+use mathlib.Core.List.{List, [], _++_}
+use Prim.Native.Nat.{ℕ, _*_}
+use lib.ListN.{length, take, drop}
+use Rattle.rules.specs.State.{State, powerReset}
+use Rattle.rules.specs.Chips.{view}
+use Rattle.rules.specs.Step.{after, answers}
+use Rattle.rules.specs.declared.chip.Chip.{Chip}
+use Rattle.rules.proofs.Ranges.{power-reset-fits, power-reset-bytes}
+use Rattle.runs.specs.Comes.{allCome, along}
+use Rattle.runs.specs.Run.{Starts, runAllows}
+use Rattle.runs.proofs.Along.{after-append}
+use Rattle.runs.proofs.Stages.{held-at-start}
+use Rattle.runs.proofs.WriteRun.{write-run}
+use Rattle.runs.proofs.ReadRun.{read-run}
+use Rattle.step.specs.declared.Ran.{Ran}
+use Rattle.step.specs.Runs.{recordsOf, steppedIn, joined, IsRun}
+use Rattle.host.specs.FromReset.{IsRunFromReset}
+use Rattle.driver.specs.Exchanges.{Exchange, handedOver, takenOf, acceptedOf, readOf, mayCome, allOver, over}
+use Rattle.driver.specs.Driving.{exchangesOf as roundExchanges, allRounds}
+use Rattle.driver.specs.DemandThree.{WriteMoment, ReadMoment, DemandThree, stateAfter}
+use Rattle.driver.specs.Calls.{Ranged, Trace, Call, Calls, exchangesOf, exchangesIn}
+use Rattle.driver.proofs.Traces.{handed-append, trace-append, ranged-after, accepted-along, reads-along, comes-along, taken-along}
+use Rattle.driver.proofs.Steps.{calls-trace, run-trace}
+use Rattle.driver.proofs.Rounds.{cut-of-trace, chain-of-trace}
+use Rattle.driver.proofs.Restarts.{starts-by-records, blind-drives, blind-sends-only-taken}
+
+-- every moment of a run, from the state in which it starts
+module _ (s : State) (run : List Exchange) (i : Ranged s) (t : Trace s run) (come : allOver (mayCome runAllows) run ≡ true) where
+  run-comes : allCome runAllows s (handedOver run) ≡ true
+  run-comes = sym (comes-along runAllows s run i t) ∙ come
+
+  pub write-moment : Starts true s → WriteMoment (stateAfter s run) run
+  write-moment start =
+      let m = write-run s (handedOver run) start run-comes in
+      let a = accepted-along s run i t in
+      let b = taken-along s run i t (held-at-start true s start) run-comes in
+      record { order = rw (a, b) (m .order); count = rw b (m .count) }
+
+  pub read-moment : Starts false s → ReadMoment s (stateAfter s run) run
+  read-moment start = rw (reads-along s run i t) (read-run s (handedOver run) start run-comes .order)
+
+module _ (s : State) (xs : List Exchange) (i : Ranged s) (t : Trace s xs) where
+  -- a part of a trace is a trace from the state before it
+  part : (earlier middle later : List Exchange) → xs ≡ earlier ++ (middle ++ later) → Trace (stateAfter s earlier) middle
+  part earlier middle later e =
+      let u : Trace s (earlier ++ (middle ++ later)) = rw e at t in
+      trace-append (stateAfter s earlier) middle later (trace-append s earlier (middle ++ later) u .1) .0
+
+  there : (earlier : List Exchange) → Ranged (stateAfter s earlier)
+  there earlier = ranged-after s (handedOver earlier) i
+
+  further : (earlier run : List Exchange) → stateAfter s (earlier ++ run) ≡ stateAfter (stateAfter s earlier) run
+  further earlier run = ap (after s) (handed-append earlier run) ∙ after-append s (handedOver earlier) (handedOver run)
+
+  -- DEMAND 3 OF EVERY TRACE
+  pub demand-three : DemandThree s xs
+  demand-three =
+      record {
+        start = λ earlier final later eightbit e q. starts-by-records s earlier final eightbit i q;
+        moment =
+            λ earlier run later e q come.
+            rw (further earlier run) (write-moment (stateAfter s earlier) run (there earlier) (part earlier run later e) come q);
+        cut = λ earlier later r e q k. cut-of-trace (stateAfter s earlier) r (there earlier) q k (part earlier (roundExchanges r) later e);
+        chain =
+            λ earlier later whole rounds last e d.
+            chain-of-trace whole (stateAfter s earlier) rounds last (there earlier) d (part earlier (allRounds rounds ++ last) later e);
+        blind =
+            λ earlier later whole rounds last e q d.
+            let p = part earlier (allRounds rounds ++ last) later e in
+            chain-of-trace whole (stateAfter s earlier) rounds last (there earlier) (blind-drives whole (stateAfter s earlier) rounds last (there earlier) q d p) p;
+        only =
+            λ earlier later whole rounds last e q d.
+            blind-sends-only-taken whole (stateAfter s earlier) rounds last (there earlier) q d (part earlier (allRounds rounds ++ last) later e);
+        reading =
+            λ earlier run later e q come.
+            rw (further earlier run) (read-moment (stateAfter s earlier) run (there earlier) (part earlier run later e) come q);
+      }
+
+-- OF EVERY LIST OF CALLS of the public step, each on the chip that the one before returned, with any records and any buffers
+pub demand-three-of-calls : (c : Chip) (ks : List Call) → Ranged (view c) → Calls c ks → DemandThree (view c) (exchangesOf ks)
+demand-three-of-calls c ks i h = demand-three (view c) (exchangesOf ks) i (calls-trace c ks i h)
+
+-- OF EVERY RUN OF RECORDS in one slice, with their answers in another
+pub demand-three-of-run : (c : Chip) (bytes before buffer : List ℕ) (r : Ran) → Ranged (view c) → IsRun c bytes before buffer r → DemandThree (view c) (exchangesIn (steppedIn bytes before) bytes buffer)
+demand-three-of-run c bytes before buffer r i h =
+    let n = steppedIn bytes before in
+    demand-three (view c) (exchangesIn n bytes buffer) i
+    (rw (h .answers) (run-trace (view c) n bytes (drop (16 * n) before) i))
+
+pub reset-ranged : Ranged powerReset
+reset-ranged = record { range = power-reset-fits; bytes = power-reset-bytes }
+
+-- AND OF THE EXPORTED RUN, from power reset
+pub demand-three-of-host : (bytes before buffer : List ℕ) (count : ℕ) → IsRunFromReset bytes before buffer count → DemandThree powerReset (exchangesIn (steppedIn bytes before) bytes buffer)
+demand-three-of-host bytes before buffer count h =
+    let n = steppedIn bytes before in
+    demand-three powerReset (exchangesIn n bytes buffer) reset-ranged
+    (rw (h .answers) (run-trace powerReset n bytes (drop (16 * n) before) reset-ranged))

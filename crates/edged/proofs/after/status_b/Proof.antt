@@ -1,8 +1,0 @@
-use borrow.Author.Needs.{needs}
-use Rattle.edged.specs.Parts.{statusB}
-use Rattle.edged.proofs.after.status_b.Statement.{statement}
-use Rattle.edged.proofs.after.status_b.Tie as tie
-
-pub status-b-spec : {M : Type 1} → statement M
-unfolding statusB
-status-b-spec = tie.close (tie.spec (λ c. search needs))

@@ -1,6 +1,0 @@
-use borrow.Author.Needs.{needs}
-use Rattle.edged.proofs.found.rst_rises.Statement.{statement}
-use Rattle.edged.proofs.found.rst_rises.Tie as tie
-
-pub rst-rises-spec : {M : Type 1} → statement M
-rst-rises-spec = tie.close (tie.spec (λ c κs. search needs) (λ c. rw (c .rst-seen .ensures)))

@@ -1,0 +1,260 @@
+-- THE FIVE STEPS IN THEIR ORDER ARE THE EDGES SIDE BY SIDE, for every state: the definition of B and the form that the code computes.
+-- A bus reset leaves RST seen, so that no REQ rises after it; a REQ that rises did not fall; so "REQ rises" is handed the state
+-- after A wherever it does anything, and the automatic ACK released before it changes nothing that it looks at.
+use Prim.Native.Nat.{ℕ}
+use mathlib.Core.Path.{_≡_, refl, ap, sym, _∙_}
+use mathlib.Core.Bool.{Bool, true, false, not, _&&_, _||_, cond, and-false}
+use mathlib.Core.List.{List, [], _∷_, _++_, append-nil}
+use Rattle.rules.specs.State.{State}
+use Rattle.rules.specs.Seen.{rstSeen, reqSeen, ioSeen, bsySeen, selSeen, mismatched, dataSeen}
+use Rattle.rules.specs.StepB.{reqFalls, ackReleased, afterReqFalls, rstRises, busReset, afterRstRises, reqRises, parityBad, attention, synchronousReq, beyondLimit, beyond, countedReq, lateByte, storedByte, reqRisen, afterReqRises, quietAfter, busFree, busFreed, afterQuietTicks, phaseChanges, phaseChanged, afterPhaseChanges, inOrder}
+use Rattle.rules.specs.Changed.{withStatus, withQuiet}
+use Rattle.rules.specs.declared.chip.Status.{Status}
+use Rattle.rules.proofs.InOrder.{falls-keeps}
+use Rattle.rules.proofs.Logic.{never, left-true, right-true, cond-case}
+use Rattle.edges.specs.Parts.{registersB, transferB, statusB}
+use Rattle.edges.specs.From.{rstRisesFrom, reqRisesFrom, synchronousReqFrom, quietFrom, edgesFrom, appliedFrom}
+use Rattle.edges.specs.declared.edges.Edges.{Edges}
+
+-- REQ does not rise where it falls, nor where RST is seen
+rises-not-falls : (now was : Bool) (x : Bool) → (now && not was && x) ≡ true → (was && not now) ≡ false
+rises-not-falls true was x h = and-false was
+rises-not-falls false was x h = absurd (never h)
+
+-- "REQ rises" does something or nothing
+module _ (last n : State) where
+  stays : reqRises last n ≡ false → afterReqRises last n ≡ n
+  unfolding afterReqRises
+  stays u = rw u
+
+  rises : reqRises last n ≡ true → afterReqRises last n ≡ reqRisen n
+  unfolding afterReqRises
+  rises u = rw u
+
+  none : reqRises last n ≡ false → beyond last n ≡ false
+  unfolding beyond
+  none u = rw u
+
+  some : reqRises last n ≡ true → beyond last n ≡ (synchronousReq n && beyondLimit n)
+  unfolding beyond
+  some u = rw u
+
+module _ (last now : State) where
+  risen-not-fallen : reqRises last now ≡ true → reqFalls last now ≡ false
+  unfolding reqRises reqFalls
+  risen-not-fallen h = rises-not-falls (now .lines .req) (last .lines .req) _ h
+
+  -- the first two steps, by what rises
+  calm : (n : State) → rstRises last n ≡ false → afterRstRises last n ≡ n
+  unfolding afterRstRises
+  calm n r = rw r
+
+  -- the automatic ACK is not looked at
+  reset-two : rstRises last now ≡ true → afterRstRises last (afterReqFalls last now) ≡ busReset now
+  unfolding afterReqFalls afterRstRises ackReleased busReset rstRises
+  reset-two r =
+      cond-case (λ n. afterRstRises last n ≡ busReset now) (reqFalls last now) (ackReleased now) now (λ f. rw r) (λ f. rw r)
+
+  unreset-two : rstRises last now ≡ false → afterRstRises last (afterReqFalls last now) ≡ afterReqFalls last now
+  unfolding afterReqFalls ackReleased rstRises
+  unreset-two r =
+      cond-case (λ n. afterRstRises last n ≡ n) (reqFalls last now) (ackReleased now) now (λ f. calm (ackReleased now) r) (λ f. calm now r)
+
+  unfallen : reqRises last now ≡ true → afterReqFalls last now ≡ now
+  unfolding afterReqFalls
+  unfallen u = rw (risen-not-fallen u)
+
+  reset-no-req : rstRises last now ≡ true → reqRises last (busReset now) ≡ false
+  unfolding rstRises reqRises busReset rstSeen
+  reset-no-req r = rw (left-true (now .lines .rst || now .registers .scsiseq .scsirsto) _ r, and-false)
+
+  unrisen : reqRises last now ≡ false → reqRises last (afterReqFalls last now) ≡ false
+  unfolding afterReqFalls ackReleased reqRises
+  unrisen u = cond-case (λ n. reqRises last n ≡ false) (reqFalls last now) (ackReleased now) now (λ f. u) (λ f. u)
+
+-- the last two steps of a state, where it is known whether the bus becomes free
+abbrev phased : Bool → Status → Status
+phased changed k =
+    record {
+      spiordy = k .spiordy;
+      scsirsti = k .scsirsti;
+      busfree = k .busfree;
+      scsiperr = k .scsiperr;
+      phasechg = changed || k .phasechg;
+      reqinit = k .reqinit;
+      syncerr = k .syncerr;
+      fwerr = k .fwerr;
+    }
+
+abbrev phasedIn : Bool → State → State
+phasedIn was n = withStatus (phased (mismatched (n .registers) (n .lines) && not was) (n .status)) n
+
+abbrev endsBy : Bool → Bool → ℕ → State → State
+endsBy was free quiet n = phasedIn was (cond free (busFreed (withQuiet quiet n)) (withQuiet quiet n))
+
+phase-step : (last n : State) → afterPhaseChanges last n ≡ phasedIn (mismatched (last .registers) (last .lines)) n
+unfolding afterPhaseChanges phaseChanges phaseChanged
+phase-step last n = go (mismatched (n .registers) (n .lines) && not (mismatched (last .registers) (last .lines)))
+  where
+    go : (b : Bool) → cond b (phaseChanged n) n ≡ withStatus (phased b (n .status)) n
+    go true = refl
+    go false = refl
+
+two-steps : (last : State) (ticks : ℕ) (n : State) → afterPhaseChanges last (afterQuietTicks ticks n) ≡ endsBy (mismatched (last .registers) (last .lines)) (busFree ticks n) (quietAfter ticks n) n
+unfolding afterQuietTicks
+two-steps last ticks n = phase-step last (afterQuietTicks ticks n)
+
+-- the edges with a bus reset, with a REQ that rises, and with neither
+abbrev resetEdges : Bool → Bool → ℕ → Edges
+resetEdges falls free quiet =
+    record {
+      reqfalls = falls;
+      rstrises = true;
+      reqrises = false;
+      paritybad = false;
+      beyond = false;
+      counted = false;
+      stored = false;
+      late = false;
+      free = free;
+      quiet = quiet;
+    }
+
+abbrev risenEdges : State → Bool → ℕ → Edges
+risenEdges now free quiet =
+    record {
+      reqfalls = false;
+      rstrises = false;
+      reqrises = true;
+      paritybad = parityBad now;
+      beyond = synchronousReq now && beyondLimit now;
+      counted = countedReq now;
+      stored = countedReq now && ioSeen (now .registers) (now .lines);
+      late = countedReq now && lateByte now;
+      free = free;
+      quiet = quiet;
+    }
+
+abbrev otherEdges : Bool → Bool → ℕ → Edges
+otherEdges falls free quiet =
+    record {
+      reqfalls = falls;
+      rstrises = false;
+      reqrises = false;
+      paritybad = false;
+      beyond = false;
+      counted = false;
+      stored = false;
+      late = false;
+      free = free;
+      quiet = quiet;
+    }
+
+module _ (was : Bool) (now : State) where
+  applied-reset : (falls free : Bool) (quiet : ℕ) → appliedFrom (resetEdges falls free quiet) was now ≡ endsBy was free quiet (busReset now)
+  unfolding appliedFrom registersB transferB statusB busReset busFreed
+  applied-reset true true quiet = refl
+  applied-reset true false quiet = refl
+  applied-reset false true quiet = refl
+  applied-reset false false quiet = refl
+
+  applied-other : (falls free : Bool) (quiet : ℕ) → appliedFrom (otherEdges falls free quiet) was now ≡ endsBy was free quiet (cond falls (ackReleased now) now)
+  unfolding appliedFrom registersB transferB statusB ackReleased busFreed
+  applied-other true true quiet = refl
+  applied-other true false quiet = refl
+  applied-other false true quiet = refl
+  applied-other false false quiet = refl
+
+  stored-last : (t : Bool) (l : List ℕ) (b : ℕ) → cond t (l ++ (b ∷ [])) l ≡ l ++ cond t (b ∷ []) []
+  stored-last true l b = refl
+  stored-last false l b = sym (append-nil l)
+
+  stored-as : cond (countedReq now && ioSeen (now .registers) (now .lines)) (now .transfer .scsi ++ (dataSeen (now .registers) (now .lines) (now .transfer) ∷ [])) (now .transfer .scsi) ≡ now .transfer .scsi ++ storedByte now
+  unfolding storedByte
+  stored-as = stored-last (countedReq now && ioSeen (now .registers) (now .lines)) (now .transfer .scsi) _
+
+  applied-risen : (free : Bool) (quiet : ℕ) → appliedFrom (risenEdges now free quiet) was now ≡ endsBy was free quiet (reqRisen now)
+  unfolding appliedFrom registersB transferB statusB attention reqRisen busFreed
+  applied-risen true quiet = rw stored-as
+  applied-risen false quiet = rw stored-as
+
+module _ (last : State) (ticks : ℕ) (now : State) where
+  abbrev rst : Bool
+  rst = rstSeen (last .registers) (last .lines)
+
+  abbrev req : Bool
+  req = reqSeen (last .registers) (last .lines)
+
+  abbrev was : Bool
+  was = mismatched (last .registers) (last .lines)
+
+  edges-reset : rstRises last now ≡ true → edgesFrom rst req now ticks ≡ resetEdges (reqFalls last now) (busFree ticks (busReset now)) (quietAfter ticks (busReset now))
+  unfolding edgesFrom rstRisesFrom reqRisesFrom synchronousReqFrom quietFrom reqFalls rstRises busReset quietAfter busFree registersB bsySeen selSeen
+  edges-reset r = rw (r, left-true (rstSeen (now .registers) (now .lines)) (not rst) r, and-false)
+
+  edges-risen : rstRises last now ≡ false → reqRises last now ≡ true → edgesFrom rst req now ticks ≡ risenEdges now (busFree ticks (reqRisen now)) (quietAfter ticks (reqRisen now))
+  unfolding edgesFrom rstRisesFrom reqRisesFrom synchronousReqFrom quietFrom reqFalls rstRises reqRises synchronousReq countedReq reqRisen quietAfter busFree registersB bsySeen selSeen
+  edges-risen r u = rw (risen-not-fallen last now u, r, u)
+
+  edges-other : rstRises last now ≡ false → reqRises last now ≡ false → edgesFrom rst req now ticks ≡ otherEdges (reqFalls last now) (busFree ticks now) (quietAfter ticks now)
+  unfolding edgesFrom rstRisesFrom reqRisesFrom synchronousReqFrom quietFrom reqFalls rstRises reqRises quietAfter busFree registersB bsySeen selSeen
+  edges-other r u = rw (r, u)
+
+  -- nor do the quiet ticks look at the automatic ACK
+  quiet-fallen : quietAfter ticks (afterReqFalls last now) ≡ quietAfter ticks now
+  unfolding ackReleased quietAfter
+  quiet-fallen = falls-keeps (λ n. quietAfter ticks n ≡ quietAfter ticks now) last (λ n h. h) now refl
+
+  free-fallen : busFree ticks (afterReqFalls last now) ≡ busFree ticks now
+  unfolding ackReleased busFree quietAfter
+  free-fallen = falls-keeps (λ n. busFree ticks n ≡ busFree ticks now) last (λ n h. h) now refl
+
+  abbrev Ordered : Type 0
+  Ordered = inOrder last ticks now ≡ appliedFrom (edgesFrom rst req now ticks) was now
+
+  -- what "REQ rises" is handed, and the state that it leaves
+  handed : {n m : State} → afterRstRises last (afterReqFalls last now) ≡ n → afterReqRises last n ≡ m → inOrder last ticks now ≡ endsBy was (busFree ticks m) (quietAfter ticks m) m
+  unfolding inOrder
+  handed {n} {m} a b =
+      ap (λ (x : State). afterPhaseChanges last (afterQuietTicks ticks (afterReqRises last x))) a
+      ∙ ap (λ (x : State). afterPhaseChanges last (afterQuietTicks ticks x)) b
+      ∙ two-steps last ticks m
+
+  side : {g : Edges} → edgesFrom rst req now ticks ≡ g → appliedFrom g was now ≡ appliedFrom (edgesFrom rst req now ticks) was now
+  side e = ap (λ (g : Edges). appliedFrom g was now) (sym e)
+
+  ordered-reset : rstRises last now ≡ true → Ordered
+  ordered-reset r =
+      handed (reset-two last now r) (stays last (busReset now) (reset-no-req last now r))
+      ∙ sym (applied-reset was now (reqFalls last now) _ _) ∙ side (edges-reset r)
+
+  ordered-risen : rstRises last now ≡ false → reqRises last now ≡ true → Ordered
+  ordered-risen r u =
+      handed (unreset-two last now r ∙ unfallen last now u) (rises last now u) ∙ sym (applied-risen was now _ _) ∙ side (edges-risen r u)
+
+  ordered-other : rstRises last now ≡ false → reqRises last now ≡ false → Ordered
+  unfolding afterReqFalls
+  ordered-other r u =
+      handed (unreset-two last now r) (stays last (afterReqFalls last now) (unrisen last now u))
+      ∙ rw (quiet-fallen, free-fallen) (sym (applied-other was now (reqFalls last now) _ _)) ∙ side (edges-other r u)
+
+  -- IN ORDER AND SIDE BY SIDE ARE ONE
+  pub in-order : inOrder last ticks now ≡ appliedFrom (edgesFrom rst req now ticks) was now
+  in-order = by (rstRises last now) (reqRises last now) refl refl
+    where
+      by : (r u : Bool) → rstRises last now ≡ r → reqRises last now ≡ u → Ordered
+      by true u p q = ordered-reset p
+      by false true p q = ordered-risen p q
+      by false false p q = ordered-other p q
+
+  -- and so is code 6
+  abbrev Beyond : Type 0
+  Beyond = beyond last (afterRstRises last (afterReqFalls last now)) ≡ (edgesFrom rst req now ticks) .beyond
+
+  pub beyond-in-order : Beyond
+  beyond-in-order = by (rstRises last now) (reqRises last now) refl refl
+    where
+      by : (r u : Bool) → rstRises last now ≡ r → reqRises last now ≡ u → Beyond
+      by true u p q = rw (reset-two last now p, edges-reset p) (none last (busReset now) (reset-no-req last now p))
+      by false true p q = rw (unreset-two last now p ∙ unfallen last now q, edges-risen p q) (some last now q)
+      by false false p q = rw (unreset-two last now p, edges-other p q) (none last (afterReqFalls last now) (unrisen last now q))

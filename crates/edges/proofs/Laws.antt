@@ -1,0 +1,86 @@
+-- Laws of the edges, over their parts.
+use mathlib.Core.Path.{_≡_, refl, ap, sym}
+use mathlib.Core.Bool.{Bool, true, false, not, _&&_, _||_, and-true, and-false, or-false, Bool·beq}
+use lib.Bits.{or-zero-r}
+use Rattle.rules.specs.State.{Transfer}
+use Rattle.rules.specs.Seen.{bsySeen, selSeen, connected, driving, dataDriven, dataSeen, parityDriven, paritySeen, parityEven}
+use Rattle.edges.specs.Parts.{registersB}
+use Rattle.rules.specs.declared.registers.Registers.{Registers}
+use Rattle.rules.specs.declared.records.Lines.{Lines}
+use Rattle.edges.specs.Inbound.{inboundEven}
+
+-- what is seen of BSY and SEL once a bus reset has zeroed 343h
+pub busy-after : (reset : Bool) (r : Registers) (l : Lines) → ((l .bsy || (not reset && r .scsisig .bsyo)) || (l .sel || (not reset && r .scsisig .selo))) ≡ (bsySeen (registersB reset false false r) l || selSeen (registersB reset false false r) l)
+unfolding bsySeen selSeen registersB
+busy-after true r l = refl
+busy-after false r l = refl
+
+-- without a bus reset, a parity error and bus free the registers stay
+pub registers-kept : (reset bad free : Bool) (r : Registers) → (reset || bad || free) ≡ false → r ≡ registersB reset bad free r
+unfolding registersB
+registers-kept true bad free r e = cc
+registers-kept false true free r e = cc
+registers-kept false false true r e = cc
+registers-kept false false false r e = refl
+
+-- a test that is only made where the first part holds
+pub and-not : (a b : Bool) → (a && not (a && b)) ≡ (a && not b)
+and-not true b = refl
+and-not false b = refl
+
+-- a conjunction whose last parts were tested first
+module _ (a b d : Bool) where
+  pub first-left : {x : Bool} → x ≡ a → b ≡ true → d ≡ true → x ≡ (a && b && d)
+  first-left e f g = rw (e, f, g, and-true, and-true)
+
+  pub second-fails : b ≡ false → false ≡ (a && b && d)
+  second-fails f = rw (f, and-false a)
+
+  pub third-fails : d ≡ false → false ≡ (a && b && d)
+  third-fails g = rw (g, and-false (a && b))
+
+-- while IO is seen the chip drives no data, and the data seen are those of others
+module _ (r : Registers) (l : Lines) (t : Transfer) (io : l .io ≡ true) where
+  not-driving : driving r l t ≡ false
+  unfolding driving
+  not-driving = rw (io, and-false)
+
+  pub inbound-data : dataSeen r l t ≡ l .byte
+  unfolding dataSeen dataDriven
+  inbound-data = rw (not-driving, or-zero-r)
+
+  inbound-parity : paritySeen r l t ≡ l .parity
+  unfolding paritySeen parityDriven
+  inbound-parity = rw (not-driving, or-false)
+
+  inbound-even : parityEven r l t ≡ inboundEven l
+  unfolding parityEven
+  inbound-even = rw (inbound-data, inbound-parity)
+
+-- a part of a conjunction counts where the others hold
+counts-where : (a i e p q : Bool) → (i ≡ true → p ≡ q) → (a && i && e && p) ≡ (a && i && e && q)
+counts-where a true e p q f = ap (λ (b : Bool). a && true && e && b) (f refl)
+counts-where a false e p q f = rw and-false
+
+-- where parity is checked, only the data of others count
+pub inbound-checked : (r : Registers) (l : Lines) (t : Transfer) → (connected r l && l .io && r .sxfrctl1 .enspchk && parityEven r l t) ≡ (connected r l && l .io && r .sxfrctl1 .enspchk && inboundEven l)
+inbound-checked r l t = counts-where (connected r l) (l .io) (r .sxfrctl1 .enspchk) (parityEven r l t) (inboundEven l) (inbound-even r l t)
+
+-- REQ as it was and is
+pub same-falls : (now was : Bool) → Bool·beq now was ≡ true → (was && not now) ≡ false
+same-falls true true e = refl
+same-falls false false e = refl
+same-falls true false e = refl
+same-falls false true e = sym e
+
+pub same-rises : (now was : Bool) → Bool·beq now was ≡ true → (now && not was) ≡ false
+same-rises true true e = refl
+same-rises false false e = refl
+same-rises true false e = sym e
+same-rises false true e = refl
+
+pub other-than : (now was : Bool) → Bool·beq now was ≡ false → was ≡ not now
+other-than true true e = e
+other-than false false e = sym e
+other-than true false e = refl
+other-than false true e = refl

@@ -1,0 +1,52 @@
+-- The edges that B finds leave room for their effects.
+use Prim.Native.Nat.{ℕ, _<_}
+use mathlib.Core.Path.{_≡_, refl, ap, sym, _∙_}
+use mathlib.Core.Bool.{Bool, true, false, not, _&&_, _||_}
+use mathlib.Core.List.{List}
+use native.Mathlib.Omega.{arith}
+use borrow.Author.Tests.{leb-false}
+use lib.Dec.{leb}
+use lib.ListN.{length, getD}
+use Rattle.rules.specs.State.{State}
+use Rattle.rules.specs.Seen.{ioSeen, limit}
+use Rattle.rules.specs.StepB.{beyondLimit}
+use Rattle.image.specs.Image.{registersAt, linesAt}
+use Rattle.edges.specs.From.{synchronousReqFrom, edgesFrom}
+use Rattle.edges.specs.Room.{Room}
+
+counted-room : (g a b : Bool) → (g && not (a || b)) ≡ true → a ≡ false
+counted-room g false b e = refl
+counted-room true true b e = sym e
+counted-room false true b e = sym e
+
+stored-room : (g a i c : Bool) → (g && not (a || (i && c)) && i) ≡ true → c ≡ false
+stored-room g a i false e = refl
+stored-room true true i true e = sym e
+stored-room true false true true e = sym e
+stored-room true false false true e = sym e
+stored-room false a i true e = sym e
+
+module _ (rst req : Bool) (s : State) (ticks : ℕ) where
+  offset-room : (edgesFrom rst req s ticks) .counted ≡ true → s .transfer .offset < 8
+  unfolding edgesFrom beyondLimit limit
+  offset-room e =
+      omega (arith, leb-false (limit (s .registers)) (s .transfer .offset) (counted-room (synchronousReqFrom req s) (leb (limit (s .registers)) (s .transfer .offset)) _ e))
+
+  scsi-room : (edgesFrom rst req s ticks) .stored ≡ true → length (s .transfer .scsi) < 8
+  unfolding edgesFrom beyondLimit
+  scsi-room e =
+      leb-false 8 (length (s .transfer .scsi)) (stored-room (synchronousReqFrom req s) (leb (limit (s .registers)) (s .transfer .offset)) (ioSeen (s .registers) (s .lines)) (leb 8 (length (s .transfer .scsi))) e)
+
+  pub room-from : Room (edgesFrom rst req s ticks) (s .transfer)
+  room-from = record { counted = offset-room; stored = scsi-room }
+
+-- the same, of the bytes of an array
+module _ (m : List ℕ) {b : Bool} (e : b ≡ (leb (limit (registersAt m)) (getD m 17 0) || ((linesAt m) .io && leb 8 (getD m 23 0)))) (f : b ≡ false) where
+  pub count-left : getD m 17 0 < 8
+  unfolding limit
+  count-left =
+      omega (arith, leb-false (limit (registersAt m)) (getD m 17 0) (counted-room true _ ((linesAt m) .io && leb 8 (getD m 23 0)) (ap not (sym e ∙ f))))
+
+  pub place-left : (linesAt m) .io ≡ true → getD m 23 0 < 8
+  place-left h =
+      leb-false 8 (getD m 23 0) (stored-room true (leb (limit (registersAt m)) (getD m 17 0)) ((linesAt m) .io) (leb 8 (getD m 23 0)) (rw (← e, f) h))

@@ -1,0 +1,50 @@
+use borrow.Author.Needs.{needs}
+use mathlib.Core.Path.{_≡_, sym, _∙_}
+use lib.Dec.{eqb}
+use borrow.Author.Tests.{eqb-true}
+use Rattle.rules.proofs.Logic.{left-true, right-true}
+use Rattle.image.specs.Image.{imageOf, stateAt}
+use Rattle.edges.specs.From.{edgesFrom, appliedFrom}
+use Rattle.edges.proofs.Still.{same-bytes, seen-beyond, seen-applied, seen-unchanged}
+use Rattle.edges.proofs.since.edges_since.Statement.{statement}
+use Rattle.edges.proofs.since.edges_since.Tie as tie
+
+returns : tie.Need-returns
+returns c =
+    let looked = c .before in
+    let first = looked .before .before in
+    let same = first .before in
+    let start = same .before .before in
+    let m = start .args .m .now in
+    let x = start .args .x in
+    let ticks = start .args .ticks in
+    let e = same-bytes m x (sym (same .is-same .ensures) ∙ left-true (same .is-same .result) (eqb ticks 0) (first .if1 .taken)) in
+    let t = eqb-true ticks 0 (right-true (same .is-same .result) (eqb ticks 0) (first .if1 .taken)) in
+    (seen-beyond m (start .pre) x e t, seen-applied m (start .pre) x e t (rw (sym (looked .busy .ensures) ∙ c .if2 .taken)))
+
+returns-2 : tie.Need-returns-2
+returns-2 c =
+    let looked = c .before in
+    let first = looked .before .before in
+    let same = first .before in
+    let start = same .before .before in
+    let m = start .args .m .now in
+    let x = start .args .x in
+    let ticks = start .args .ticks in
+    let e = same-bytes m x (sym (same .is-same .ensures) ∙ left-true (same .is-same .result) (eqb ticks 0) (first .if1 .taken)) in
+    let t = eqb-true ticks 0 (right-true (same .is-same .result) (eqb ticks 0) (first .if1 .taken)) in
+    (seen-beyond m (start .pre) x e t, seen-unchanged m (start .pre) x e t (sym (looked .busy .ensures) ∙ c .if2 .left))
+
+returns-3 : tie.Need-returns-3
+returns-3 c =
+    let read = c .before .before in
+    let start = read .before .before .before .before in
+    let s = stateAt (start .args .m .now) in
+    let n = start .args .ticks in
+    let w = read .before-of .ensures in
+    (c .edges-in .ensures .0 ∙ (λ i. (edgesFrom (w .0 i) (w .1 .0 i) s n) .beyond), c .edges-in .ensures .1 ∙ (λ i. imageOf (appliedFrom (edgesFrom (w .0 i) (w .1 .0 i) s n) (w .1 .1 i) s)))
+
+pub edges-since-spec : {M : Type 1} → statement M
+edges-since-spec =
+    tie.close
+    (tie.spec (λ c κs. search needs) (λ c κs. search needs) (λ c. search needs) returns returns-2 (λ c κs. search needs) (λ c κs. search needs) returns-3)

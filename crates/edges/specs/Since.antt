@@ -1,0 +1,24 @@
+-- What was seen, by the four bytes that it is read off.
+use Prim.Native.Nat.{ℕ}
+use mathlib.Core.Bool.{Bool}
+use mathlib.Core.List.{List}
+use lib.ListN.{getD, set, replicate}
+use Rattle.rules.specs.Seen.{rstSeen, reqSeen, mismatched}
+use Rattle.image.specs.Image.{registersAt, linesAt}
+use Rattle.edges.specs.declared.last.Seen.{Seen}
+
+abbrev pub seenOf : List ℕ → Seen
+seenOf m = record { seq = getD m 0 0; sig = getD m 3 0; upper = getD m 15 0; control = getD m 16 0 }
+
+-- an array with nothing else in it
+abbrev pub spread : Seen → List ℕ
+spread x = set (set (set (set (replicate 196 0) 0 (x .seq)) 3 (x .sig)) 15 (x .upper)) 16 (x .control)
+
+unfoldable pub rstOf : Seen → Bool
+rstOf x = rstSeen (registersAt (spread x)) (linesAt (spread x))
+
+unfoldable pub reqOf : Seen → Bool
+reqOf x = reqSeen (registersAt (spread x)) (linesAt (spread x))
+
+unfoldable pub mismatchedOf : Seen → Bool
+mismatchedOf x = mismatched (registersAt (spread x)) (linesAt (spread x))

@@ -1,0 +1,102 @@
+// Step B, "Edges, in this order", over the chip in the bytes of one array.
+ghost use mathlib.Core.Path.{_≡_};
+ghost use Rattle.rules.specs.Seen.{rstSeen, reqSeen, mismatched};
+ghost use Rattle.image.specs.Image.{registersAt, linesAt, imageOf, stateAt, IsImage};
+ghost use Rattle.edges.specs.From.{edgesFrom, appliedFrom};
+ghost use Rattle.edges.specs.Room.{Room};
+use crate::edges::Edges;
+use crate::last::Before;
+use image::bus::mismatched;
+use image::bus::rst_seen;
+
+mod after;
+mod edges;
+mod found;
+pub mod last;
+pub mod since;
+mod single;
+
+// What step B of the next event asks of this one.
+fn last_seen(m: &[u8; 196]) -> Before
+    ensures { λ b. ⌜ b .rst ≡ rstSeen (registersAt (now (m .entry))) (linesAt (now (m .entry))) ⌝ }
+    ensures { λ b. ⌜ b .req ≡ reqSeen (registersAt (now (m .entry))) (linesAt (now (m .entry))) ⌝ }
+    ensures { λ b. ⌜ b .mismatched ≡ mismatched (registersAt (now (m .entry))) (linesAt (now (m .entry))) ⌝ }
+{
+    Before {
+        rst: rst_seen(m),
+        req: (m[16] >> 1) % 2 == 1,
+        mismatched: mismatched(m),
+    }
+}
+
+// The edges between the end of the last event and now, after A.
+fn edges_of(m: &[u8; 196], was: Before, ticks: u32) -> Edges
+    requires { ⌜ IsImage (now m) ⌝ }
+    ensures { λ r. ⌜ r ≡ edgesFrom (was .rst) (was .req) (stateAt (now (m .entry))) ticks ⌝ }
+{
+    let reset = found::rst_rises(m, was.rst);
+    let rises = found::req_rises(m, was.req);
+    let bad = found::parity_bad(m, rises);
+    let req = found::synchronous_req(m, rises);
+    let beyond = found::beyond_limit(m, req);
+    let late = found::late_byte(m, req & !beyond);
+    let quiet = found::quiet_after(m, reset, ticks);
+    Edges {
+        reqfalls: was.req & !((m[16] >> 1) % 2 == 1),
+        rstrises: reset,
+        reqrises: rises,
+        paritybad: bad,
+        beyond: beyond,
+        counted: req & !beyond,
+        stored: req & !beyond & ((m[16] >> 6) % 2 == 1),
+        late: late,
+        free: (8 <= quiet) & !(8 <= m[20]),
+        quiet: quiet,
+    }
+}
+
+// The chip after B. The byte is read before the registers change, the phase is judged after.
+fn applied_in(m: &mut [u8; 196], g: Edges, was: Before)
+    requires { ⌜ IsImage (now m) ⌝ }
+    requires { ⌜ Room g ((stateAt (now m)) .transfer) ⌝ }
+    ensures { λ _. ⌜ now (m .exit) ≡ imageOf (appliedFrom g (was .mismatched) (stateAt (now (m .entry)))) ⌝ }
+{
+    let byte = after::byte_seen(m, g.stored);
+    after::path_in(m, g, byte);
+    after::registers_in(m, g.rstrises, g.paritybad, g.free);
+    let seen = mismatched(m);
+    after::status_in(m, g, seen & !was.mismatched);
+    m[20] = g.quiet;
+}
+
+// The rare edges: all are found, then applied.
+fn all_in(m: &mut [u8; 196], was: Before, ticks: u32) -> bool
+    requires { ⌜ IsImage (now m) ⌝ }
+    ensures { λ b. ⌜ b ≡ (edgesFrom (was .rst) (was .req) (stateAt (now (m .entry))) ticks) .beyond ⌝ }
+    ensures { λ _. ⌜ now (m .exit) ≡ imageOf (appliedFrom (edgesFrom (was .rst) (was .req) (stateAt (now (m .entry))) ticks) (was .mismatched) (stateAt (now (m .entry)))) ⌝ }
+{
+    let g = edges_of(m, was, ticks);
+    applied_in(m, g, was);
+    g.beyond
+}
+
+// B on an image: the edges found and applied, the frequent ones by themselves; whether a REQ went beyond the limit.
+fn edges_in(m: &mut [u8; 196], was: Before, ticks: u32) -> bool
+    requires { ⌜ IsImage (now m) ⌝ }
+    ensures { λ b. ⌜ b ≡ (edgesFrom (was .rst) (was .req) (stateAt (now (m .entry))) ticks) .beyond ⌝ }
+    ensures { λ _. ⌜ now (m .exit) ≡ imageOf (appliedFrom (edgesFrom (was .rst) (was .req) (stateAt (now (m .entry))) ticks) (was .mismatched) (stateAt (now (m .entry)))) ⌝ }
+{
+    if found::rst_rises(m, was.rst) {
+        return all_in(m, was, ticks);
+    }
+    let quiet = found::quiet_after(m, false, ticks);
+    if (8 <= quiet) & !(8 <= m[20]) {
+        return all_in(m, was, ticks);
+    }
+    if found::checked_bad(m, was.req) {
+        return all_in(m, was, ticks);
+    }
+    m[20] = quiet;
+    single::phase_in(m, was.mismatched);
+    single::req_in(m, was.req)
+}

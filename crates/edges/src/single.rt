@@ -1,0 +1,98 @@
+// The frequent edges, each by itself, in place.
+ghost use mathlib.Core.Path.{_≡_};
+ghost use mathlib.Core.Bool.{true, false, _&&_};
+ghost use Prim.Native.Nat.{_<_};
+ghost use lib.ListN.{getD};
+ghost use Rattle.rules.specs.StepB.{beyondLimit};
+ghost use Rattle.image.specs.Image.{imageOf, stateAt, linesAt};
+ghost use Rattle.edges.specs.From.{synchronousReqFrom};
+ghost use Rattle.edges.specs.Frequent.{raisedB, phaseB, inboundB, callB, risenB, reqB};
+ghost use Rattle.edges.specs.Stored.{statusStored};
+use crate::after::byte_stored;
+use crate::found::beyond_limit;
+use crate::found::synchronous_req;
+use image::bus::mismatched;
+use image::bus::rst_seen;
+use image::bytes::status_byte;
+use image::bytes::status_of;
+
+// PHASECHG, REQINIT and SYNCERR set, the rest of the status as it was.
+fn raised_in(m: &mut [u8; 196], phase: bool, req: bool, late: bool)
+    ensures { λ _. ⌜ now (m .exit) ≡ statusStored (raisedB phase req late) (now (m .entry)) ⌝ }
+{
+    let mut t = status_of(m[12]);
+    t.phasechg = phase | t.phasechg;
+    t.reqinit = req | t.reqinit;
+    t.syncerr = late | t.syncerr;
+    let v = status_byte(t);
+    m[12] = v;
+}
+
+// "PHASECHG is set when "connected and not matched" is true here and was false"
+pub fn phase_in(m: &mut [u8; 196], was: bool)
+    requires { ⌜ now m ≡ imageOf (stateAt (now m)) ⌝ }
+    ensures { λ _. ⌜ now (m .exit) ≡ imageOf (phaseB was (stateAt (now (m .entry)))) ⌝ }
+{
+    if was {
+        return;
+    }
+    if mismatched(m) {
+        raised_in(m, true, false, false);
+    }
+}
+
+// An inbound byte, SYNCERR where it is late: while IO is seen the chip drives no data, so it is the byte of others.
+fn inbound_in(m: &mut [u8; 196])
+    requires { ⌜ now m ≡ imageOf (stateAt (now m)) ⌝ }
+    requires { ⌜ ((linesAt (now m)) .io ≡ true → getD (now m) 23 0 < 8) ⌝ }
+    ensures { λ _. ⌜ now (m .exit) ≡ imageOf (inboundB true (stateAt (now (m .entry)))) ⌝ }
+{
+    if !((m[16] >> 6) % 2 == 1) {
+        return;
+    }
+    let late = (m[17] == 0) & (0 < m[23]);
+    let byte = m[14];
+    byte_stored(m, byte);
+    if late {
+        raised_in(m, false, false, true);
+    }
+}
+
+// A REQ that rose: a synchronous one is counted, or is beyond the limit.
+fn risen(m: &mut [u8; 196]) -> bool
+    requires { ⌜ now m ≡ imageOf (stateAt (now m)) ⌝ }
+    ensures { λ b. ⌜ b ≡ (callB (stateAt (now (m .entry))) && beyondLimit (stateAt (now (m .entry)))) ⌝ }
+    ensures { λ _. ⌜ now (m .exit) ≡ imageOf (risenB (callB (stateAt (now (m .entry)))) (stateAt (now (m .entry)))) ⌝ }
+{
+    if !synchronous_req(m, true) {
+        return false;
+    }
+    if beyond_limit(m, true) {
+        return true;
+    }
+    let offset = m[17];
+    inbound_in(m);
+    m[17] = offset + 1;
+    false
+}
+
+// REQ as it was seen last and is seen now; whether it went beyond the limit.
+pub fn req_in(m: &mut [u8; 196], was: bool) -> bool
+    requires { ⌜ now m ≡ imageOf (stateAt (now m)) ⌝ }
+    ensures { λ b. ⌜ b ≡ (synchronousReqFrom was (stateAt (now (m .entry))) && beyondLimit (stateAt (now (m .entry)))) ⌝ }
+    ensures { λ _. ⌜ now (m .exit) ≡ imageOf (reqB was (stateAt (now (m .entry)))) ⌝ }
+{
+    let req = (m[16] >> 1) % 2 == 1;
+    if req == was {
+        return false;
+    }
+    if !req {
+        m[18] = 0;
+        return false;
+    }
+    if rst_seen(m) {
+        return false;
+    }
+    raised_in(m, false, true, false);
+    risen(m)
+}

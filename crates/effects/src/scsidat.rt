@@ -1,0 +1,66 @@
+// 346h, the latch: filled by a write, and accessed in Automatic mode.
+ghost use mathlib.Core.Path.{_≡_};
+ghost use mathlib.Core.Bool.{_&&_};
+ghost use Rattle.rules.specs.Map.{offsetOf};
+ghost use Rattle.rules.specs.Seen.{automatic, matched, reqSeen};
+ghost use Rattle.rules.specs.declared.map.Register.the-variants.{SCSIDAT};
+ghost use Rattle.rules.specs.declared.records.Event.the-variants.{Write, Read};
+ghost use Rattle.image.specs.Image.{IsImage, imageOf, stateAt, registersAt, linesAt};
+ghost use Rattle.effects.specs.Acting.{Acts};
+ghost use Rattle.effects.specs.Writes.{ackCounted};
+use crate::Acted;
+use crate::done_with;
+use interrupts::status::status_kept_in;
+use image::bus::automatic;
+use image::bus::data_seen;
+use image::bus::matched;
+use datapath::counts::acknowledged;
+use rules::map::Register;
+use writes::storing::stored;
+
+// "if Automatic, matched and REQ is seen"
+fn automatic_ack(m: &[u8; 196], accessed: bool) -> bool
+    ensures { λ b. ⌜ b ≡ (accessed && automatic (registersAt (now (m .entry))) && matched (registersAt (now (m .entry))) (linesAt (now (m .entry))) && reqSeen (registersAt (now (m .entry))) (linesAt (now (m .entry)))) ⌝ }
+{
+    if accessed {
+        automatic(m) & matched(m) & ((m[16] >> 1) % 2 == 1)
+    } else {
+        false
+    }
+}
+
+// An Automatic ACK "turns automatic ACK on, adds one to the counter".
+fn ack_by(m: &mut [u8; 196], acked: bool)
+    requires { ⌜ IsImage (now m) ⌝ }
+    ensures { λ _. ⌜ now (m .exit) ≡ imageOf (ackCounted acked (stateAt (now (m .entry)))) ⌝ }
+{
+    if acked {
+        acknowledged(m);
+    }
+}
+
+// "A write to 346h fills the latch."; with SPIORDY and IO not seen it is an access, which may be acknowledged.
+pub fn latch_filled(m: &mut [u8; 196], value: u8) -> Acted
+    requires { ⌜ IsImage (now m) ⌝ }
+    ensures { λ r. ⌜ Acts (stateAt (now (m .entry))) (Write (offsetOf SCSIDAT) value) (now (m .exit)) r ⌝ }
+{
+    let accessed = !((m[16] >> 6) % 2 == 1) & ((m[12] >> 7) % 2 == 1);
+    let acked = automatic_ack(m, accessed);
+    ack_by(m, acked);
+    stored(m, Register::SCSIDAT, value);
+    status_kept_in(m, accessed, acked);
+    done_with(0, 0)
+}
+
+// "An access to 346h (a write with IO not seen, a read with IO seen) with SPIORDY clears it"
+pub fn latch_read(m: &mut [u8; 196]) -> Acted
+    requires { ⌜ IsImage (now m) ⌝ }
+    ensures { λ r. ⌜ Acts (stateAt (now (m .entry))) (Read 0x06) (now (m .exit)) r ⌝ }
+{
+    let accessed = ((m[16] >> 6) % 2 == 1) & ((m[12] >> 7) % 2 == 1);
+    let acked = automatic_ack(m, accessed);
+    let value = data_seen(m) as u16;
+    ack_by(m, acked);
+    status_kept_in(m, accessed, acked);
+    done_with(value, 0)
+}

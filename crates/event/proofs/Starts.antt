@@ -1,0 +1,133 @@
+-- From what A left: the answer is ready, or B, C and D are to come.
+use Prim.Native.Nat.{ℕ}
+use mathlib.Core.Path.{_≡_, refl, ap, sym, _∙_}
+use mathlib.Core.Bool.{Bool, true, false, not}
+use mathlib.Core.List.{List}
+use Rattle.rules.specs.Numbers.{padded}
+use Rattle.rules.specs.State.{State, powerReset}
+use Rattle.rules.specs.Seen.{rstSeen, reqSeen, mismatched}
+use Rattle.rules.specs.Registers.{simode0Of, simode1Of}
+use Rattle.rules.specs.Codes.{accessCode, isDone, refusedValue}
+use Rattle.rules.specs.Ranges.{InRange, InBytes, EventFits, DecodedFits}
+use Rattle.rules.specs.Step.{ended, refused, done, access, stepEvent, stepDecoded}
+use Rattle.rules.specs.Answers.{Stepped}
+use Rattle.rules.specs.declared.codes.Code.{Code}
+use Rattle.rules.specs.declared.codes.Code.the-variants.{Done, Malformed}
+use Rattle.rules.specs.declared.records.Event.{Event}
+use Rattle.rules.specs.declared.records.Event.the-variants.{PowerReset, Write, Read, WordWrite, WordRead, Drive, Ticks}
+use Rattle.rules.specs.declared.records.Decoded.{Decoded}
+use Rattle.rules.specs.declared.records.Decoded.the-variants.{Well, Ill}
+use Rattle.rules.proofs.Logic.{never}
+use Rattle.effects.proofs.DoneCode.{code-done}
+use Rattle.image.specs.Image.{imageOf}
+use Rattle.effects.specs.declared.Acted.{Acted}
+use Rattle.effects.specs.Acting.{Acts}
+use Rattle.edges.specs.declared.last.Seen.{Seen}
+use Rattle.edges.specs.Since.{rstOf, reqOf, mismatchedOf}
+use Rattle.event.specs.declared.stepping.Outcome.{Outcome}
+use Rattle.event.specs.Given.{Leaves, endedAs}
+use Rattle.event.specs.Opening.{Ends, OpensEvent, Opens, Ready}
+
+not-true : (b : Bool) {a : Bool} → a ≡ not b → a ≡ true → b ≡ false
+not-true true p q = sym q ∙ p
+not-true false p q = refl
+
+not-false : (b : Bool) {a : Bool} → a ≡ not b → a ≡ false → b ≡ true
+not-false true p q = refl
+not-false false p q = sym q ∙ p
+
+access-done : (s : State) (e : Event) → isDone (accessCode s e) ≡ true → done s e ≡ access s e
+unfolding access
+access-done s e h = rw h
+
+access-refused : (s : State) (e : Event) → isDone (accessCode s e) ≡ false → refused s (accessCode s e) (refusedValue e) ≡ access s e
+unfolding access
+access-refused s e h = rw h
+
+-- a refusal, or a power reset
+refused-leaves : (s : State) {code : Code} {value : ℕ} {m : List ℕ} {c : Code} {v : ℕ} → m ≡ imageOf s → c ≡ code → v ≡ value → Leaves (refused s code value) m (endedAs c v)
+unfolding ended padded
+refused-leaves s i c v = record { image = i; code = c; value = v; moves = refl; acks = refl; sent = refl }
+
+pub leaves-as : {x y : Stepped} {m : List ℕ} {o : Outcome} → x ≡ y → Leaves x m o → Leaves y m o
+leaves-as p l =
+    record {
+      image = l .image ∙ ap (λ (x : Stepped). imageOf (x .state)) p;
+      code = l .code ∙ ap (λ (x : Stepped). x .code) p;
+      value = l .value ∙ ap (λ (x : Stepped). x .value) p;
+      moves = l .moves ∙ ap (λ (x : Stepped). x .moves) p;
+      acks = l .acks ∙ ap (λ (x : Stepped). x .acks) p;
+      sent = l .sent ∙ ap (λ (x : Stepped). padded 8 (x .sent)) p;
+    }
+
+module _ (s : State) {m : List ℕ} (a : Acted) where
+  ends-leaves : (t : State) (code : Code) (value : ℕ) → Ends t code value m a → Leaves (refused t code value) m (endedAs (a .code) (a .value))
+  ends-leaves t code value x = refused-leaves t (x .image) (ap (λ (y : Acted). y .code) (x .acted)) (ap (λ (y : Acted). y .value) (x .acted))
+
+  acts-leaves : (e : Event) → Acts s e m a → a .ends ≡ true → Leaves (access s e) m (endedAs (a .code) (a .value))
+  acts-leaves e x h =
+      let f : isDone (accessCode s e) ≡ false = not-true (isDone (accessCode s e)) (x .ends) h in
+      leaves-as (access-refused s e f) (refused-leaves s (rw f at (x .image)) (x .code) (rw f at (x .value)))
+
+  event-leaves : (e : Event) → OpensEvent s e m a → a .ends ≡ true → Leaves (stepEvent s e) m (endedAs (a .code) (a .value))
+  unfolding stepEvent
+  event-leaves PowerReset x h = ends-leaves powerReset Done 0 x
+  event-leaves (Write o v) x h = acts-leaves (Write o v) x h
+  event-leaves (Read o) x h = acts-leaves (Read o) x h
+  event-leaves (WordWrite w) x h = acts-leaves (WordWrite w) x h
+  event-leaves WordRead x h = acts-leaves WordRead x h
+  event-leaves (Drive l) x h = acts-leaves (Drive l) x h
+  event-leaves (Ticks n) x h = acts-leaves (Ticks n) x h
+
+  pub opens-leaves : (d : Decoded) → Opens s d m a → a .ends ≡ true → Leaves (stepDecoded s d) m (endedAs (a .code) (a .value))
+  unfolding stepDecoded
+  opens-leaves (Well e) x h = event-leaves e x h
+  opens-leaves Ill x h = ends-leaves s Malformed 0 x
+
+-- what B, C and D take up, and that they give the step
+pub record Onward (y : Stepped) (m : List ℕ) (x : Seen) (before0 before1 ticks value : ℕ) : Type 0 where
+  pub ready : Ready m x before0 before1 ticks value
+  pub step : done (ready .state) (ready .event) ≡ y
+
+module _ (s : State) (i : InRange s) (j : InBytes s) {m : List ℕ} (a : Acted) {seen : Seen} {before0 before1 : ℕ} (p : rstOf seen ≡ rstSeen (s .registers) (s .lines)) (q : reqOf seen ≡ reqSeen (s .registers) (s .lines)) (r : mismatchedOf seen ≡ mismatched (s .registers) (s .lines)) (y : simode0Of before0 ≡ s .registers .simode0) (z : simode1Of before1 ≡ s .registers .simode1) where
+  acts-onward : (e : Event) → EventFits e → Acts s e m a → a .ends ≡ false → Onward (access s e) m seen before0 before1 (a .ticks) (a .value)
+  acts-onward e f x h =
+      let t : isDone (accessCode s e) ≡ true = not-false (isDone (accessCode s e)) (x .ends) h in
+      record {
+        ready =
+            record {
+              state = s;
+              event = e;
+              fits = f;
+              done = code-done (accessCode s e) t;
+              range = i;
+              bytes = j;
+              made = rw t at (x .image);
+              rst = p;
+              req = q;
+              mismatched = r;
+              simode0 = y;
+              simode1 = z;
+              ticks = x .ticks;
+              value = rw t at (x .value);
+            };
+        step = access-done s e t;
+      }
+
+  never-ended : (t : State) (code : Code) (value : ℕ) {x : Stepped} → Ends t code value m a → a .ends ≡ false → Onward x m seen before0 before1 (a .ticks) (a .value)
+  never-ended t code value x h = absurd (never (sym h ∙ ap (λ (y : Acted). y .ends) (x .acted)))
+
+  event-onward : (e : Event) → EventFits e → OpensEvent s e m a → a .ends ≡ false → Onward (stepEvent s e) m seen before0 before1 (a .ticks) (a .value)
+  unfolding stepEvent
+  event-onward PowerReset f x h = never-ended powerReset Done 0 x h
+  event-onward (Write o v) f x h = acts-onward (Write o v) f x h
+  event-onward (Read o) f x h = acts-onward (Read o) f x h
+  event-onward (WordWrite w) f x h = acts-onward (WordWrite w) f x h
+  event-onward WordRead f x h = acts-onward WordRead f x h
+  event-onward (Drive l) f x h = acts-onward (Drive l) f x h
+  event-onward (Ticks n) f x h = acts-onward (Ticks n) f x h
+
+  pub opens-onward : (d : Decoded) → DecodedFits d → Opens s d m a → a .ends ≡ false → Onward (stepDecoded s d) m seen before0 before1 (a .ticks) (a .value)
+  unfolding stepDecoded
+  opens-onward (Well e) f x h = event-onward e f x h
+  opens-onward Ill f x h = never-ended s Malformed 0 x h

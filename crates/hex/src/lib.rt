@@ -1,0 +1,59 @@
+// Answers as lines of hex digits.
+ghost use mathlib.Core.Path.{_≡_};
+ghost use Prim.Native.Nat.{_+_, _≤_, min};
+ghost use lib.ListN.{length, take, drop};
+ghost use lib.Seq.{paste};
+ghost use Rattle.hex.specs.Hex.{lineOf, Digits, Printed};
+
+// Both digits of a byte at once: 6 more carries out of the four bits of those that are letters.
+fn digits(b: u8) -> u16
+    ensures { λ r. ⌜ Digits b r ⌝ }
+{
+    let w = b as u16;
+    let values = w / 16 + w % 16 * 256;
+    let carried = values + 0x0606;
+    let letters = carried / 16 % 2 + carried / 4096 * 256;
+    values + 0x3030 + 7 * letters
+}
+
+// An answer in an array of its own: the compiler then sees that no store of a line changes it.
+fn copied(answers: &[u8], from: usize) -> [u8; 16]
+    requires { ⌜ from + 16 ≤ length (now answers) ⌝ }
+    ensures { λ r. ⌜ r ≡ take 16 (drop from (now (answers .entry))) ⌝ }
+{
+    let mut b = [0u8; 16];
+    for i in 0..16usize {
+        b[i] = answers[from + i];
+    }
+    b
+}
+
+// The line of an answer at a place of out.
+fn line(b: [u8; 16], out: &mut [u8], at: usize)
+    requires { ⌜ at + 33 ≤ length (now out) ⌝ }
+    ensures { λ _. ⌜ now (out .exit) ≡ paste (now (out .entry)) at (lineOf b) 33 ⌝ }
+{
+    for i in 0..16usize {
+        let pair = digits(b[i]);
+        out[at + 2 * i] = (pair % 256) as u8;
+        out[at + 2 * i + 1] = (pair / 256) as u8;
+    }
+    out[at + 32] = 10;
+}
+
+fn smaller(a: usize, b: usize) -> usize
+    ensures { λ r. ⌜ r ≡ min a b ⌝ }
+{
+    if a < b { a } else { b }
+}
+
+// The lines of the answers, as many as there is room for; the number of bytes written.
+pub fn print(answers: &[u8], out: &mut [u8]) -> usize
+    ensures { λ r. ⌜ Printed (now (answers .entry)) (now (out .entry)) (now (out .exit)) r ⌝ }
+{
+    let n = smaller(answers.len() / 16, out.len() / 33);
+    for k in 0..n {
+        line(copied(answers, 16 * k), out, 33 * k);
+    }
+    33 * n
+}

@@ -1,7 +1,0 @@
-use borrow.Author.Needs.{needs}
-use Rattle.ports.proofs.Heads.{low}
-use Rattle.ports.proofs.counts.low_written.Statement.{statement}
-use Rattle.ports.proofs.counts.low_written.Tie as tie
-
-pub low-written-spec : {M : Type 1} → statement M
-low-written-spec = tie.close (tie.spec (λ c. search needs) (λ c. low _ (c .pre .packed) (c .args .value) (c .fits .value .fits)))

@@ -1,0 +1,72 @@
+-- Settling with the byte of the lines is settling with the byte seen.
+use Prim.Native.Nat.{ℕ, zero, suc}
+use mathlib.Core.Path.{_≡_, refl, sym, ap, _∙_}
+use mathlib.Core.Bool.{Bool, true, false, not, _&&_, cond, Bool·beq}
+use lib.Bits.{or-zero-r}
+use Rattle.rules.specs.State.{State, Transfer}
+use Rattle.rules.specs.Seen.{normal, connected, matched, path, driving, dataDriven, dataSeen}
+use Rattle.rules.specs.StepC.{Settling, conditions, canMove, move, canSynchronous, canAsynchronous, canHandshake, handshake, turn, settle}
+use Rattle.rules.specs.declared.chip.Conditions.{Conditions}
+use Rattle.rules.specs.declared.registers.Registers.{Registers}
+use Rattle.rules.specs.declared.records.Lines.{Lines}
+use Rattle.rules.proofs.Logic.{never, left-true, right-true}
+use Rattle.settling.specs.Looks.{withByte, lookedAt}
+
+chosen : (a h : Bool) (p q r s : Settling) → (h ≡ true → q ≡ r) → cond a p (cond h q s) ≡ cond a p (cond h r s)
+chosen true h p q r s e = refl
+chosen false true p q r s e = e refl
+chosen false false p q r s e = refl
+
+-- another byte, that matters only where a handshake stores it
+module _ (b : ℕ) (c : Conditions) (k : c .enabled ≡ true → c .outbound ≡ false → b ≡ c .byte) where
+  shake-same : (x : Settling) → canHandshake c (x .transfer) ≡ true → handshake (withByte b c) x ≡ handshake c x
+  unfolding handshake canHandshake
+  shake-same x h = go (c .outbound) refl
+    where
+      go : (o : Bool) → c .outbound ≡ o → handshake (withByte b c) x ≡ handshake c x
+      go true o = rw o
+      go false o = ap (λ (n : ℕ). handshake (withByte n c) x) (k (left-true (c .enabled) _ h) o)
+
+  turn-same : (x : Settling) → turn (withByte b c) x ≡ turn c x
+  unfolding turn canMove canHandshake canSynchronous canAsynchronous move
+  turn-same x =
+      chosen (canMove c (x .transfer)) (canHandshake c (x .transfer)) (move c x) (handshake (withByte b c) x) (handshake c x) x (shake-same x)
+
+  settle-same : (n : ℕ) (x : Settling) → settle (withByte b c) n x ≡ settle c n x
+  unfolding settle
+  settle-same zero x = refl
+  settle-same (suc n) x = ap (settle (withByte b c) n) (turn-same x) ∙ settle-same n (turn c x)
+
+differ : (w i : Bool) → w ≡ false → not (Bool·beq w i) ≡ true → i ≡ true
+differ w true e h = refl
+differ true false e h = absurd (never (sym e))
+differ false false e h = h
+
+agree : (a b : Bool) → b ≡ true → Bool·beq a b ≡ true → a ≡ true
+agree true b e h = refl
+agree false true e h = h
+agree false false e h = e
+
+undriven : (a i d : Bool) → i ≡ true → (a && not i && d) ≡ false
+undriven true true d e = refl
+undriven true false d e = absurd (never e)
+undriven false i d e = refl
+
+-- inbound in the phase expected IO is seen, and nothing is driven
+module _ (r : Registers) (l : Lines) (t : Transfer) where
+  io-seen : path r ≡ true → matched r l ≡ true → r .dmacntrl0 .write ≡ false → l .io ≡ true
+  unfolding path matched
+  io-seen p m w =
+      agree (l .io) (r .scsisig .ioexp) (differ (r .dmacntrl0 .write) (r .scsisig .ioexp) w (right-true (normal r) _ p))
+      (right-true (connected r l && Bool·beq (l .cd) (r .scsisig .cdexp)) _ (left-true _ (Bool·beq (l .msg) (r .scsisig .msgexp)) m))
+
+  lines-seen : l .io ≡ true → l .byte ≡ dataSeen r l t
+  unfolding driving dataDriven dataSeen
+  lines-seen e = rw (undriven _ (l .io) _ e) (sym (or-zero-r (l .byte)))
+
+pub looked-ends : (s : State) (n : ℕ) (x : Settling) → settle (lookedAt s) n x ≡ settle (conditions s) n x
+unfolding lookedAt conditions
+looked-ends s n x =
+    settle-same (s .lines .byte) (conditions s)
+    (λ e o. lines-seen (s .registers) (s .lines) (s .transfer) (io-seen (s .registers) (s .lines) (s .transfer) (right-true (s .registers .sxfrctl0 .scsien) _ (left-true _ (matched (s .registers) (s .lines)) e)) (right-true (s .registers .sxfrctl0 .scsien && path (s .registers)) (matched (s .registers) (s .lines)) e) o))
+    n x

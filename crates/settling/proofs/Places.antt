@@ -1,0 +1,88 @@
+-- The FIFOs in their places of the array.
+use Prim.Native.Nat.{ℕ, _+_, _-_, _<_, _≤_}
+use mathlib.Core.Path.{_≡_, refl, sym, ap, _∙_}
+use mathlib.Core.List.{List, [], _++_, append-assoc, append-nil}
+use native.Mathlib.Omega.{arith}
+use lib.ListN.{length, take, drop, set, getD, length-append}
+use lib.Seq.{paste, take-at, drop-at, take-append-le, length-take-le}
+use Rattle.rules.specs.Numbers.{padded}
+use Rattle.rules.specs.State.{State, Transfer}
+use Rattle.laws.proofs.Lists.{padded-length, padded-take}
+use Rattle.image.specs.Image.{headOf, imageOf, withTransfer}
+use Rattle.settling.specs.Laid.{laid, lowered}
+use Rattle.settling.proofs.Parts.{join-at, lower-at}
+
+pub flat : (a b c d : List ℕ) → a ++ b ++ c ++ d ≡ a ++ (b ++ (c ++ (d ++ [])))
+flat a b c d = simp (append-assoc, append-nil)
+
+pub image-laid : (s : State) → imageOf s ≡ laid (headOf s) (s .transfer .scsi) (s .stack .bytes) (s .transfer .host)
+unfolding imageOf laid
+image-laid s = flat (headOf s) (padded 8 (s .transfer .scsi)) (s .stack .bytes) (padded 128 (s .transfer .host))
+
+-- the parts are as long as their places
+pub record Sized (a q k h : List ℕ) : Type 0 where
+  pub head : length a ≡ 28
+  pub scsi : length q ≤ 8
+  pub stack : length k ≡ 32
+  pub host : length h ≤ 128
+
+module _ {a q k h : List ℕ} (z : Sized a q k h) where
+  before-long : length (a ++ padded 8 q ++ k) ≡ 68
+  before-long =
+      let e : length (padded 8 q) ≡ 8 = padded-length 8 q (z .scsi) in
+      simp length-append (omega (arith, z .head, z .stack))
+
+  laid-host : laid a q k h ≡ (a ++ padded 8 q ++ k) ++ (padded 128 h ++ [])
+  unfolding laid
+  laid-host = simp append-assoc
+
+  pub laid-long : length (laid a q k h) ≡ 196
+  laid-long =
+      let e : length (padded 128 h) ≡ 128 = padded-length 128 h (z .host) in
+      let f : length (padded 8 q) ≡ 8 = padded-length 8 q (z .scsi) in
+      ap length laid-host ∙ simp (length-append, append-nil) (omega (arith, before-long))
+
+  pub scsi-joined : (s : List ℕ) (at n : ℕ) → at ≡ 28 + length q → length q + n ≤ 8 → n ≤ length s → paste (laid a q k h) at s n ≡ laid a (q ++ take n s) k h
+  unfolding laid
+  scsi-joined s at n e f g = join-at 8 a q (k ++ (padded 128 h ++ [])) s at n (omega (arith, z .head)) f g
+
+  pub host-joined : (s : List ℕ) (at n : ℕ) → at ≡ 68 + length h → length h + n ≤ 128 → n ≤ length s → paste (laid a q k h) at s n ≡ laid a q k (h ++ take n s)
+  unfolding laid
+  host-joined s at n e f g =
+      ap (λ (x : List ℕ). paste x at s n) laid-host ∙ join-at 128 (a ++ padded 8 q ++ k) h [] s at n (omega (arith, before-long)) f g
+      ∙ grouped (padded 128 (h ++ take n s))
+    where
+      grouped : (y : List ℕ) → (a ++ padded 8 q ++ k) ++ (y ++ []) ≡ a ++ (padded 8 q ++ (k ++ (y ++ [])))
+      grouped y = simp append-assoc
+
+  pub scsi-lowered : (n j : ℕ) → n ≡ length q → j ≤ length q → lowered (laid a q k h) 28 n j ≡ laid a (drop j q) k h
+  unfolding laid
+  scsi-lowered n j e f = lower-at 8 a q (k ++ (padded 128 h ++ [])) 28 n j (sym (z .head)) e f (z .scsi)
+
+  pub host-lowered : (n j : ℕ) → n ≡ length h → j ≤ length h → lowered (laid a q k h) 68 n j ≡ laid a q k (drop j h)
+  unfolding laid
+  host-lowered n j e f =
+      ap (λ (x : List ℕ). lowered x 68 n j) laid-host ∙ lower-at 128 (a ++ padded 8 q ++ k) h [] 68 n j (sym before-long) e f (z .host)
+      ∙ grouped (padded 128 (drop j h))
+    where
+      grouped : (y : List ℕ) → (a ++ padded 8 q ++ k) ++ (y ++ []) ≡ a ++ (padded 8 q ++ (k ++ (y ++ [])))
+      grouped y = simp append-assoc
+
+  -- the bytes of the host FIFO from the front
+  pub host-from : (n : ℕ) → n ≤ length h → take n (drop 68 (laid a q k h)) ≡ take n h
+  unfolding padded
+  host-from n e =
+      ap (λ (x : List ℕ). take n (drop 68 x)) laid-host ∙ ap (take n) (drop-at (a ++ padded 8 q ++ k) (padded 128 h ++ []) 68 before-long ∙ append-nil (padded 128 h))
+      ∙ take-append-le n h _ e
+
+  pub scsi-from : (n : ℕ) → n ≤ length q → take n (drop 28 (laid a q k h)) ≡ take n q
+  unfolding laid padded
+  scsi-from n e =
+      ap (take n) (drop-at a (padded 8 q ++ (k ++ (padded 128 h ++ []))) 28 (z .head) ∙ append-assoc q _ _)
+      ∙ take-append-le n q _ e
+
+-- the counts of what stands in the places
+module _ (s : State) (q h : List ℕ) where
+  pub counts-set : set (set (laid (headOf s) q (s .stack .bytes) h) 23 (length q)) 24 (length h) ≡ imageOf (withTransfer (record { host = h; scsi = q; counter = s .transfer .counter; offset = s .transfer .offset; ack = s .transfer .ack; last = s .transfer .last }) s)
+  unfolding laid imageOf
+  counts-set = sym (flat (headOf (withTransfer (record { host = h; scsi = q; counter = s .transfer .counter; offset = s .transfer .offset; ack = s .transfer .ack; last = s .transfer .last }) s)) (padded 8 q) (s .stack .bytes) (padded 128 h))

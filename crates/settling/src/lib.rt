@@ -1,0 +1,129 @@
+// C, settling, on the bytes of one array: "Repeat the first that is possible, until neither is".
+ghost use mathlib.Core.Path.{_≡_};
+ghost use mathlib.Core.Bool.{false};
+ghost use Prim.Native.Nat.{_-_, _≤_};
+ghost use Rattle.rules.specs.StepC.{conditions, canMove};
+ghost use Rattle.image.specs.Image.{IsImage, stateAt};
+ghost use Rattle.settling.specs.Looks.{lookedAt, mayShake};
+ghost use Rattle.settling.specs.Settles.{Settles};
+use image::bus::matched;
+use image::bus::path;
+use image::bus::synchronous;
+use rules::chip::Conditions;
+
+mod copies;
+mod moves;
+mod shakes;
+
+// What settling tells of: the bytes sent, then zeros, the moves and the ACKs.
+pub struct Told {
+    pub sent: [u8; 8],
+    pub moves: u8,
+    pub acks: u8,
+}
+
+// "Handshake, if SCSIEN, path, matched."
+fn enabled(m: &[u8; 196]) -> bool
+    ensures { λ r. ⌜ r ≡ (conditions (stateAt (now (m .entry)))) .enabled ⌝ }
+{
+    if path(m) {
+        if (m[1] >> 7) % 2 == 1 {
+            matched(m)
+        } else {
+            false
+        }
+    } else {
+        false
+    }
+}
+
+// What settling looks at and does not change; where a byte is stored, the lines alone are seen.
+fn conditions_of(m: &[u8; 196]) -> Conditions
+    ensures { λ r. ⌜ r ≡ lookedAt (stateAt (now (m .entry))) ⌝ }
+{
+    let way = path(m);
+    let able = enabled(m);
+    let kind = synchronous(m);
+    Conditions {
+        path: way,
+        enabled: able,
+        outbound: (m[9] >> 3) % 2 == 1,
+        synchronous: kind,
+        req: (m[16] >> 1) % 2 == 1,
+        byte: m[14],
+    }
+}
+
+// Whether a handshake can come at all.
+fn possible(m: &[u8; 196]) -> bool
+    ensures { λ r. ⌜ r ≡ mayShake (stateAt (now (m .entry))) ⌝ }
+{
+    if synchronous(m) {
+        0 < m[17]
+    } else {
+        if (m[16] >> 1) % 2 == 1 {
+            !(m[18] == 1)
+        } else {
+            false
+        }
+    }
+}
+
+// Handshakes, and the moves after each; made are the moves before them.
+fn shaking(m: &mut [u8; 196], c: Conditions, made: u8) -> Told
+    requires { ⌜ IsImage (now m) ⌝ }
+    requires { ⌜ canMove c ((stateAt (now m)) .transfer) ≡ false ⌝ }
+    requires { ⌜ made ≤ 16 ⌝ }
+    ensures { λ r. ⌜ (made ≤ r .moves) × Settles (now (m .entry)) c (now (m .exit)) (record { sent = r .sent; moves = r .moves - made; acks = r .acks }) ⌝ }
+{
+    let mut moves = made;
+    let mut acks = 0u8;
+    let mut sent = fifos::sent::none();
+    while shakes::can_handshake(m, c) {
+        sent = shakes::shaken(m, c, sent);
+        acks = acks + 1;
+        let more = moves::moved(m, c);
+        moves = moves + more;
+    }
+    let bytes = sent.bytes;
+    Told {
+        sent: bytes,
+        moves: moves,
+        acks: acks,
+    }
+}
+
+// Moves alone, where no handshake can come.
+fn moving(m: &mut [u8; 196]) -> Told
+    requires { ⌜ IsImage (now m) ⌝ }
+    requires { ⌜ mayShake (stateAt (now m)) ≡ false ⌝ }
+    ensures { λ r. ⌜ Settles (now (m .entry)) (conditions (stateAt (now (m .entry)))) (now (m .exit)) r ⌝ }
+{
+    let c = conditions_of(m);
+    let moves = moves::moved(m, c);
+    Told {
+        sent: [0u8; 8],
+        moves: moves,
+        acks: 0,
+    }
+}
+
+// Settling of an event: without a path nothing is possible; moves do not change whether a handshake can come.
+pub fn settle(m: &mut [u8; 196]) -> Told
+    requires { ⌜ IsImage (now m) ⌝ }
+    ensures { λ r. ⌜ Settles (now (m .entry)) (conditions (stateAt (now (m .entry)))) (now (m .exit)) r ⌝ }
+{
+    if !path(m) {
+        return Told {
+            sent: [0u8; 8],
+            moves: 0,
+            acks: 0,
+        };
+    }
+    if !possible(m) {
+        return moving(m);
+    }
+    let c = conditions_of(m);
+    let moves = moves::moved(m, c);
+    shaking(m, c, moves)
+}

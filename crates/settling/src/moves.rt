@@ -1,0 +1,98 @@
+// Moves between the FIFOs: a run of moves is one block.
+ghost use mathlib.Core.Path.{_≡_};
+ghost use mathlib.Core.Bool.{true, false};
+ghost use Prim.Native.Nat.{_+_, _≤_, min};
+ghost use lib.ListN.{length};
+ghost use Rattle.image.specs.Image.{IsImage, imageOf, stateAt, withTransfer};
+ghost use Rattle.settling.specs.Parts.{movable, carried};
+ghost use Rattle.settling.specs.Steps.{Moves};
+use image::copies::copied;
+use rules::chip::Conditions;
+
+// k bytes from the host FIFO behind those of the SCSI FIFO.
+fn carried_out(m: &mut [u8; 196], k: usize)
+    requires { ⌜ IsImage (now m) ⌝ }
+    requires { ⌜ k ≤ length ((stateAt (now m)) .transfer .host) ⌝ }
+    requires { ⌜ length ((stateAt (now m)) .transfer .scsi) + k ≤ 8 ⌝ }
+    ensures { λ _. ⌜ now (m .exit) ≡ imageOf (withTransfer (carried true k ((stateAt (now (m .entry))) .transfer)) (stateAt (now (m .entry)))) ⌝ }
+{
+    let held = crate::copies::wide(m[23]);
+    let n = crate::copies::wide(m[24]);
+    copied(m, 68, 28 + held, k);
+    crate::copies::moved_down(m, 68, n, k);
+    m[23] = (held + k) as u8;
+    m[24] = (n - k) as u8;
+}
+
+// k bytes from the SCSI FIFO behind those of the host FIFO.
+fn carried_in(m: &mut [u8; 196], k: usize)
+    requires { ⌜ IsImage (now m) ⌝ }
+    requires { ⌜ k ≤ length ((stateAt (now m)) .transfer .scsi) ⌝ }
+    requires { ⌜ length ((stateAt (now m)) .transfer .host) + k ≤ 128 ⌝ }
+    ensures { λ _. ⌜ now (m .exit) ≡ imageOf (withTransfer (carried false k ((stateAt (now (m .entry))) .transfer)) (stateAt (now (m .entry)))) ⌝ }
+{
+    let n = crate::copies::wide(m[23]);
+    let held = crate::copies::wide(m[24]);
+    copied(m, 28, 68 + held, k);
+    crate::copies::moved_down(m, 28, n, k);
+    m[23] = (n - k) as u8;
+    m[24] = (held + k) as u8;
+}
+
+fn smaller(a: usize, b: usize) -> usize
+    ensures { λ r. ⌜ r ≡ min a b ⌝ }
+{
+    if a < b { a } else { b }
+}
+
+// The moves that are possible one after the other; most often there is nothing to move, which is looked at first.
+pub fn run_length(m: &[u8; 196], c: Conditions) -> usize
+    requires { ⌜ IsImage (now m) ⌝ }
+    ensures { λ r. ⌜ r ≡ movable c ((stateAt (now (m .entry))) .transfer) ⌝ }
+{
+    let scsi = crate::copies::wide(m[23]);
+    let host = crate::copies::wide(m[24]);
+    if c.path {
+        if c.outbound {
+            if host == 0 {
+                0
+            } else {
+                smaller(host, 8 - scsi)
+            }
+        } else {
+            if scsi == 0 {
+                0
+            } else {
+                smaller(scsi, 128 - host)
+            }
+        }
+    } else {
+        0
+    }
+}
+
+// A run of k moves.
+fn carried_run(m: &mut [u8; 196], c: Conditions, k: usize)
+    requires { ⌜ IsImage (now m) ⌝ }
+    requires { ⌜ k ≤ movable c ((stateAt (now m)) .transfer) ⌝ }
+    ensures { λ _. ⌜ now (m .exit) ≡ imageOf (withTransfer (carried (c .outbound) k ((stateAt (now (m .entry))) .transfer)) (stateAt (now (m .entry)))) ⌝ }
+{
+    if c.outbound {
+        carried_out(m, k);
+    } else {
+        carried_in(m, k);
+    }
+}
+
+// The longest run of moves, and how many they are.
+pub fn moved(m: &mut [u8; 196], c: Conditions) -> u8
+    requires { ⌜ IsImage (now m) ⌝ }
+    ensures { λ r. ⌜ Moves (now (m .entry)) c (now (m .exit)) r ⌝ }
+{
+    let k = run_length(m, c);
+    if k == 0 {
+        return 0;
+    }
+    carried_run(m, c, k);
+    k as u8
+}

@@ -1,0 +1,173 @@
+// One handshake: its byte, and its ACK.
+ghost use mathlib.Core.Path.{_≡_};
+ghost use mathlib.Core.Bool.{true, false};
+ghost use mathlib.Core.List.{[], _∷_};
+ghost use Prim.Native.Nat.{_+_, _*_, _-_, _<_, _≤_};
+ghost use lib.ListN.{length, set, getD};
+ghost use Rattle.rules.specs.Counter.{counterByte, counted};
+ghost use Rattle.rules.specs.StepC.{canSynchronous, canAsynchronous, canHandshake};
+ghost use Rattle.fifos.specs.Fifos.{SentTidy};
+ghost use Rattle.image.specs.Image.{IsImage, imageOf, stateAt, withTransfer};
+ghost use Rattle.settling.specs.Laid.{counterPut};
+ghost use Rattle.settling.specs.Parts.{passed, acknowledged};
+ghost use Rattle.settling.specs.Steps.{sentWith, byteOf, shakenOf};
+use fifos::sent::Sent;
+use rules::chip::Conditions;
+
+fn can_synchronous(m: &[u8; 196], c: Conditions) -> bool
+    requires { ⌜ IsImage (now m) ⌝ }
+    ensures { λ r. ⌜ r ≡ canSynchronous c ((stateAt (now (m .entry))) .transfer) ⌝ }
+{
+    let held = m[23];
+    let open = m[17];
+    if c.outbound {
+        (0 < open) & (0 < held)
+    } else {
+        (0 < open) & (held < open)
+    }
+}
+
+fn can_asynchronous(m: &[u8; 196], c: Conditions) -> bool
+    requires { ⌜ IsImage (now m) ⌝ }
+    ensures { λ r. ⌜ r ≡ canAsynchronous c ((stateAt (now (m .entry))) .transfer) ⌝ }
+{
+    let held = m[23];
+    let on = m[18] == 1;
+    if c.outbound {
+        c.req & !on & (0 < held)
+    } else {
+        c.req & !on & (held < 8)
+    }
+}
+
+pub fn can_handshake(m: &[u8; 196], c: Conditions) -> bool
+    requires { ⌜ IsImage (now m) ⌝ }
+    ensures { λ r. ⌜ r ≡ canHandshake c ((stateAt (now (m .entry))) .transfer) ⌝ }
+{
+    if c.synchronous {
+        c.enabled & can_synchronous(m, c)
+    } else {
+        c.enabled & can_asynchronous(m, c)
+    }
+}
+
+// The oldest byte of the SCSI FIFO goes to the bus; the places past the count hold 0 and move with the others.
+fn byte_sent(m: &mut [u8; 196]) -> u8
+    requires { ⌜ IsImage (now m) ⌝ }
+    requires { ⌜ 0 < length ((stateAt (now m)) .transfer .scsi) ⌝ }
+    ensures { λ r. ⌜ (r ≡ getD ((stateAt (now (m .entry))) .transfer .scsi) 0 0) × (now (m .exit) ≡ imageOf (withTransfer (passed true [] ((stateAt (now (m .entry))) .transfer)) (stateAt (now (m .entry))))) ⌝ }
+{
+    let n = m[23];
+    let b = m[28];
+    m[28] = m[29];
+    m[29] = m[30];
+    m[30] = m[31];
+    m[31] = m[32];
+    m[32] = m[33];
+    m[33] = m[34];
+    m[34] = m[35];
+    m[35] = 0;
+    m[19] = b;
+    m[23] = n - 1;
+    b
+}
+
+// The byte seen is stored.
+fn byte_stored(m: &mut [u8; 196], b: u8)
+    requires { ⌜ IsImage (now m) ⌝ }
+    requires { ⌜ length ((stateAt (now m)) .transfer .scsi) < 8 ⌝ }
+    ensures { λ _. ⌜ now (m .exit) ≡ imageOf (withTransfer (passed false (b ∷ []) ((stateAt (now (m .entry))) .transfer)) (stateAt (now (m .entry)))) ⌝ }
+{
+    let n = crate::copies::wide(m[23]);
+    m[28 + n] = b;
+    m[23] = (n + 1) as u8;
+}
+
+// The byte of a handshake; a synchronous inbound one is stored already.
+fn byte_passed(m: &mut [u8; 196], c: Conditions, sent: Sent) -> Sent
+    requires { ⌜ IsImage (now m) ⌝ }
+    requires { ⌜ canHandshake c ((stateAt (now m)) .transfer) ≡ true ⌝ }
+    requires { ⌜ SentTidy sent ⌝ }
+    requires { ⌜ sent .count < 8 ⌝ }
+    ensures { λ r. ⌜ (r ≡ sentWith c ((stateAt (now (m .entry))) .transfer) sent) × (now (m .exit) ≡ imageOf (withTransfer (byteOf c ((stateAt (now (m .entry))) .transfer)) (stateAt (now (m .entry))))) ⌝ }
+{
+    if c.outbound {
+        let b = byte_sent(m);
+        return fifos::sent::one_more(sent, b);
+    }
+    if c.synchronous {
+        return sent;
+    }
+    byte_stored(m, c.byte);
+    sent
+}
+
+fn word(x: u8) -> u32
+    ensures { λ r. ⌜ (r ≡ x) × (r < 256) ⌝ }
+{
+    x as u32
+}
+
+fn counter_of(m: &[u8; 196]) -> u32
+    ensures { λ r. ⌜ r ≡ getD (now (m .entry)) 25 0 + 256 * getD (now (m .entry)) 26 0 + 65536 * getD (now (m .entry)) 27 0 ⌝ }
+{
+    let low = word(m[25]);
+    let middle = word(m[26]);
+    let high = word(m[27]);
+    low + 256 * middle + 65536 * high
+}
+
+fn counter_stored(m: &mut [u8; 196], n: u32)
+    ensures { λ _. ⌜ now (m .exit) ≡ set (set (set (now (m .entry)) 25 (counterByte 0 n)) 26 (counterByte 1 n)) 27 (counterByte 2 n) ⌝ }
+{
+    m[25] = (n % 256) as u8;
+    m[26] = ((n / 256) % 256) as u8;
+    m[27] = ((n / 65536) % 256) as u8;
+}
+
+// "Each ACK adds one to the counter, modulo 16,777,216"; most often the low byte alone changes.
+fn counted_in(m: &mut [u8; 196])
+    requires { ⌜ IsImage (now m) ⌝ }
+    ensures { λ _. ⌜ now (m .exit) ≡ counterPut (now (m .entry)) (counted ((stateAt (now (m .entry))) .transfer .counter)) ⌝ }
+{
+    let low = m[25];
+    if low < 255 {
+        m[25] = low + 1;
+    } else {
+        let n = counter_of(m);
+        counter_stored(m, (n % 16777216 + 1) % 16777216);
+    }
+}
+
+// The ACK of a handshake: a pulse that lowers the offset, or on.
+fn ack_given(m: &mut [u8; 196], synchronous: bool)
+    requires { ⌜ IsImage (now m) ⌝ }
+    ensures { λ _. ⌜ now (m .exit) ≡ imageOf (withTransfer (acknowledged synchronous ((stateAt (now (m .entry))) .transfer)) (stateAt (now (m .entry)))) ⌝ }
+{
+    counted_in(m);
+    if synchronous {
+        let offset = m[17];
+        m[17] = less_one(offset);
+    } else {
+        m[18] = 1;
+    }
+}
+
+fn less_one(n: u8) -> u8
+    ensures { λ r. ⌜ r ≡ n - 1 ⌝ }
+{
+    if 0 < n { n - 1 } else { 0 }
+}
+
+// A handshake, with the bytes sent so far.
+pub fn shaken(m: &mut [u8; 196], c: Conditions, sent: Sent) -> Sent
+    requires { ⌜ IsImage (now m) ⌝ }
+    requires { ⌜ canHandshake c ((stateAt (now m)) .transfer) ≡ true ⌝ }
+    requires { ⌜ SentTidy sent ⌝ }
+    requires { ⌜ sent .count < 8 ⌝ }
+    ensures { λ r. ⌜ (r ≡ sentWith c ((stateAt (now (m .entry))) .transfer) sent) × (now (m .exit) ≡ imageOf (withTransfer (shakenOf c ((stateAt (now (m .entry))) .transfer)) (stateAt (now (m .entry))))) ⌝ }
+{
+    let more = byte_passed(m, c, sent);
+    ack_given(m, c.synchronous);
+    more
+}

@@ -1,0 +1,10 @@
+-- One field is changed.
+use borrow.Author.Needs.{needs}
+use Rattle.stored.proofs.next_line.Statement.{statement}
+use Rattle.stored.proofs.next_line.Tie as tie
+
+returns : tie.Need-returns
+returns c = rw (c .one-more .ensures)
+
+pub next-line-spec : {M : Type 1} → statement M
+next-line-spec = tie.close (tie.spec (λ c κs. search needs) returns)

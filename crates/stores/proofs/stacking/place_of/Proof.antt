@@ -1,5 +1,0 @@
-use Rattle.stores.proofs.stacking.place_of.Statement.{statement}
-use Rattle.stores.proofs.stacking.place_of.Tie as tie
-
-pub place-of-spec : {M : Type 1} → statement M
-place-of-spec = tie.close (tie.spec (λ c. rw (c .if1 .taken)) (λ c. rw (c .if1 .left)))
