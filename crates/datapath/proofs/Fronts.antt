@@ -10,7 +10,8 @@ use Rattle.rules.specs.Numbers.{padded}
 use Rattle.rules.specs.State.{State}
 use Rattle.laws.proofs.Lists.{padded-push, padded-length}
 use Rattle.image.specs.Image.{imageOf, headOf, stateAt, IsImage}
-use Rattle.datapath.specs.Ready.{Placed, withHost}
+use Rattle.rules.specs.Changed.{withHost}
+use Rattle.datapath.specs.Ready.{Placed}
 
 abbrev pub frontOf : State → List ℕ
 frontOf s = headOf s ++ padded 8 (s .transfer .scsi) ++ s .stack .bytes

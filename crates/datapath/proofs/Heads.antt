@@ -11,7 +11,8 @@ use Rattle.rules.specs.Numbers.{padded}
 use Rattle.rules.specs.Counter.{counterSize, counted, counterByte, counterWith}
 use Rattle.rules.specs.State.{State}
 use Rattle.image.specs.Image.{imageOf, headOf}
-use Rattle.datapath.specs.Ready.{Placed, withScsi, withCounter, counterWritten, counterCounted, withOffset, withAck}
+use Rattle.rules.specs.Changed.{withScsi, withCounter, withOffset, withAck}
+use Rattle.datapath.specs.Ready.{Placed, counterWritten, counterCounted}
 use Rattle.datapath.proofs.Fronts.{paste-at}
 
 -- the three bytes of a number stand for it

@@ -6,7 +6,7 @@ use mathlib.Core.List.{List}
 use lib.ListN.{length}
 use Rattle.rules.specs.State.{State}
 use Rattle.rules.specs.Counter.{counterSize, counted, counterWith}
-use Rattle.image.specs.Image.{withTransfer}
+use Rattle.rules.specs.Changed.{withCounter}
 
 -- the FIFOs, the stack and the counter fit their places
 pub record Placed (s : State) : Type 0 where
@@ -15,45 +15,6 @@ pub record Placed (s : State) : Type 0 where
   pub stack : length (s .stack .bytes) ≡ 32
   pub counter : s .transfer .counter < counterSize
 
-abbrev pub withHost : List ℕ → State → State
-withHost l s =
-    withTransfer
-    (record {
-      host = l;
-      scsi = s .transfer .scsi;
-      counter = s .transfer .counter;
-      offset = s .transfer .offset;
-      ack = s .transfer .ack;
-      last = s .transfer .last;
-    })
-    s
-
-abbrev pub withScsi : List ℕ → State → State
-withScsi l s =
-    withTransfer
-    (record {
-      host = s .transfer .host;
-      scsi = l;
-      counter = s .transfer .counter;
-      offset = s .transfer .offset;
-      ack = s .transfer .ack;
-      last = s .transfer .last;
-    })
-    s
-
-abbrev pub withCounter : ℕ → State → State
-withCounter n s =
-    withTransfer
-    (record {
-      host = s .transfer .host;
-      scsi = s .transfer .scsi;
-      counter = n;
-      offset = s .transfer .offset;
-      ack = s .transfer .ack;
-      last = s .transfer .last;
-    })
-    s
-
 -- byte k of the counter written; one added to it
 abbrev pub counterWritten : ℕ → ℕ → State → State
 counterWritten k v s = withCounter (counterWith k v (s .transfer .counter)) s
@@ -61,28 +22,3 @@ counterWritten k v s = withCounter (counterWith k v (s .transfer .counter)) s
 abbrev pub counterCounted : State → State
 counterCounted s = withCounter (counted (s .transfer .counter)) s
 
-abbrev pub withOffset : ℕ → State → State
-withOffset n s =
-    withTransfer
-    (record {
-      host = s .transfer .host;
-      scsi = s .transfer .scsi;
-      counter = s .transfer .counter;
-      offset = n;
-      ack = s .transfer .ack;
-      last = s .transfer .last;
-    })
-    s
-
-abbrev pub withAck : Bool → State → State
-withAck b s =
-    withTransfer
-    (record {
-      host = s .transfer .host;
-      scsi = s .transfer .scsi;
-      counter = s .transfer .counter;
-      offset = s .transfer .offset;
-      ack = b;
-      last = s .transfer .last;
-    })
-    s

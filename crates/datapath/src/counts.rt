@@ -3,7 +3,8 @@ ghost use mathlib.Core.Path.{_≡_};
 ghost use mathlib.Core.Bool.{true};
 ghost use Prim.Native.Nat.{_+_, _*_};
 ghost use Rattle.image.specs.Image.{imageOf, stateAt, IsImage};
-ghost use Rattle.datapath.specs.Ready.{withCounter, counterWritten, counterCounted, withAck};
+ghost use Rattle.rules.specs.Changed.{withCounter, withAck};
+ghost use Rattle.datapath.specs.Ready.{counterWritten, counterCounted};
 
 // "CLRSTCNT zeroes the counter"
 pub fn counter_zeroed(m: &mut [u8; 196])

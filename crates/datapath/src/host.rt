@@ -4,7 +4,7 @@ ghost use mathlib.Core.List.{[], _∷_, _++_};
 ghost use Prim.Native.Nat.{_+_, _%_, _/_, _<_, _≤_};
 ghost use lib.ListN.{getD, set, drop};
 ghost use Rattle.image.specs.Image.{imageOf, stateAt, IsImage};
-ghost use Rattle.datapath.specs.Ready.{withHost};
+ghost use Rattle.rules.specs.Changed.{withHost};
 use image::copies::copied;
 use image::copies::zeroed;
 

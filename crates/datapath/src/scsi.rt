@@ -2,7 +2,7 @@
 ghost use mathlib.Core.Path.{_≡_};
 ghost use mathlib.Core.List.{[]};
 ghost use Rattle.image.specs.Image.{imageOf, stateAt, IsImage};
-ghost use Rattle.datapath.specs.Ready.{withScsi, withOffset};
+ghost use Rattle.rules.specs.Changed.{withScsi, withOffset};
 use image::copies::zeroed;
 
 // "CLRCH empties the SCSI FIFO and zeroes the offset"

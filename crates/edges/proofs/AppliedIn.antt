@@ -10,7 +10,8 @@ use Rattle.edges.specs.Parts.{registersB, transferB, statusB}
 use Rattle.rules.specs.declared.registers.Registers.{Registers}
 use Rattle.rules.specs.declared.records.Lines.{Lines}
 use Rattle.edges.specs.declared.edges.Edges.{Edges}
-use Rattle.image.specs.Image.{imageOf, stateAt, registersAt, linesAt, transferAt, withRegisters, withTransfer, withStatus, withQuiet}
+use Rattle.rules.specs.Changed.{withRegisters, withTransfer, withStatus, withQuiet}
+use Rattle.image.specs.Image.{imageOf, stateAt, registersAt, linesAt, transferAt}
 use Rattle.image.proofs.EightBits.{bit-0, bit-1, bit-2, bit-3, bit-4, bit-5, bit-6, bit-7}
 use Rattle.edges.specs.From.{appliedFrom}
 use Rattle.edges.specs.Stored.{registersStored, statusStored}
@@ -37,12 +38,12 @@ mismatched-by : (r q : Registers) (l k : Lines) → r .scsisig ≡ q .scsisig �
 unfolding mismatched matched connected bsySeen selSeen rstSeen
 mismatched-by r q l k a b d = rw (a, b, d)
 
-pub mismatched-at : (m : List ℕ) (s : State) → m ≡ imageOf s → mismatched (registersAt m) (linesAt m) ≡ mismatched (s .registers) (s .lines)
+pub mismatched-at : (m : List ℕ) (s : State) → m ≡ imageOf s → mismatched (stateAt m) ≡ mismatched s
 mismatched-at m s e =
-    ap (λ (l : List ℕ). mismatched (registersAt l) (linesAt l)) e
+    ap (λ (l : List ℕ). mismatched (stateAt l)) e
     ∙ mismatched-by (registersAt (imageOf s)) (s .registers) (linesAt (imageOf s)) (s .lines) (sig-at s) (seq-at s) (lines-at s)
 
-seen-at : (m : List ℕ) (stored : Bool) {byte : ℕ} → byte ≡ cond stored (dataSeen (registersAt m) (linesAt m) (transferAt m)) 0 → byte ≡ cond stored (dataSeen ((stateAt m) .registers) ((stateAt m) .lines) ((stateAt m) .transfer)) 0
+seen-at : (m : List ℕ) (stored : Bool) {byte : ℕ} → byte ≡ cond stored (dataSeen (stateAt m)) 0 → byte ≡ cond stored (dataSeen (stateAt m)) 0
 unfolding stateAt
 seen-at m stored e = e
 
@@ -55,13 +56,13 @@ transfer-by : (g : Edges) (x : ℕ) (t : Transfer) → transferB g (cond (g .sto
 unfolding transferB
 transfer-by g x t = rw (stored-byte (g .stored) x (t .scsi))
 
-applied-made : (g : Edges) (was : Bool) (s : State) {changed : Bool} → changed ≡ (mismatched (registersB (g .rstrises) (g .paritybad) (g .free) (s .registers)) (s .lines) && not was) → withQuiet (g .quiet) (withStatus (statusB g changed (s .status)) (withRegisters (registersB (g .rstrises) (g .paritybad) (g .free) (s .registers)) (withTransfer (transferB g (dataSeen (s .registers) (s .lines) (s .transfer)) (s .transfer)) s))) ≡ appliedFrom g was s
+applied-made : (g : Edges) (was : Bool) (s : State) {changed : Bool} → changed ≡ (mismatched (registersB (g .rstrises) (g .paritybad) (g .free) (s .registers)) (s .lines) && not was) → withQuiet (g .quiet) (withStatus (statusB g changed (s .status)) (withRegisters (registersB (g .rstrises) (g .paritybad) (g .free) (s .registers)) (withTransfer (transferB g (dataSeen s) (s .transfer)) s))) ≡ appliedFrom g was s
 unfolding appliedFrom
 applied-made g was s a = rw a
 
-applied-placed : (g : Edges) (was : Bool) (s : State) {a b d : List ℕ} {seen : Bool} → a ≡ imageOf (withTransfer (transferB g (dataSeen (s .registers) (s .lines) (s .transfer)) (s .transfer)) s) → b ≡ cond (g .rstrises || g .paritybad || g .free) (registersStored (g .rstrises) (g .paritybad) (g .free) a) a → seen ≡ mismatched (registersAt b) (linesAt b) → d ≡ statusStored (statusB g (seen && not was)) b → set d 20 (g .quiet) ≡ imageOf (appliedFrom g was s)
+applied-placed : (g : Edges) (was : Bool) (s : State) {a b d : List ℕ} {seen : Bool} → a ≡ imageOf (withTransfer (transferB g (dataSeen s) (s .transfer)) s) → b ≡ cond (g .rstrises || g .paritybad || g .free) (registersStored (g .rstrises) (g .paritybad) (g .free) a) a → seen ≡ mismatched (stateAt b) → d ≡ statusStored (statusB g (seen && not was)) b → set d 20 (g .quiet) ≡ imageOf (appliedFrom g was s)
 applied-placed g was s {a} {b} {d} {seen} p q f r =
-    let t : State = withTransfer (transferB g (dataSeen (s .registers) (s .lines) (s .transfer)) (s .transfer)) s in
+    let t : State = withTransfer (transferB g (dataSeen s) (s .transfer)) s in
     let u : State = withRegisters (registersB (g .rstrises) (g .paritybad) (g .free) (s .registers)) t in
     let v : State = withStatus (statusB g (seen && not was) (s .status)) u in
     let i : b ≡ imageOf u = registers-placed (g .rstrises) (g .paritybad) (g .free) t p q in
@@ -69,9 +70,9 @@ applied-placed g was s {a} {b} {d} {seen} p q f r =
     quiet-placed d (g .quiet) v j
     ∙ ap imageOf (applied-made g was s (ap (λ (x : Bool). x && not was) (f ∙ mismatched-at b u i)))
 
-pub applied-in : (g : Edges) (was : Bool) (m : List ℕ) {a b d : List ℕ} {byte : ℕ} {seen : Bool} → byte ≡ cond (g .stored) (dataSeen (registersAt m) (linesAt m) (transferAt m)) 0 → a ≡ imageOf (withTransfer (transferB g byte ((stateAt m) .transfer)) (stateAt m)) → b ≡ cond (g .rstrises || g .paritybad || g .free) (registersStored (g .rstrises) (g .paritybad) (g .free) a) a → seen ≡ mismatched (registersAt b) (linesAt b) → d ≡ statusStored (statusB g (seen && not was)) b → set d 20 (g .quiet) ≡ imageOf (appliedFrom g was (stateAt m))
+pub applied-in : (g : Edges) (was : Bool) (m : List ℕ) {a b d : List ℕ} {byte : ℕ} {seen : Bool} → byte ≡ cond (g .stored) (dataSeen (stateAt m)) 0 → a ≡ imageOf (withTransfer (transferB g byte ((stateAt m) .transfer)) (stateAt m)) → b ≡ cond (g .rstrises || g .paritybad || g .free) (registersStored (g .rstrises) (g .paritybad) (g .free) a) a → seen ≡ mismatched (stateAt b) → d ≡ statusStored (statusB g (seen && not was)) b → set d 20 (g .quiet) ≡ imageOf (appliedFrom g was (stateAt m))
 applied-in g was m e p q f r =
     let s : State = stateAt m in
-    let x : ℕ = dataSeen (s .registers) (s .lines) (s .transfer) in
+    let x : ℕ = dataSeen s in
     applied-placed g was s
     (p ∙ ap (λ (y : Transfer). imageOf (withTransfer y s)) (ap (λ (y : ℕ). transferB g y (s .transfer)) (seen-at m (g .stored) e) ∙ transfer-by g x (s .transfer))) q f r

@@ -18,18 +18,18 @@ use Rattle.edges.proofs.Placed.{held-of}
 
 module _ (s : State) (held : ℕ) (rst req : Bool) (ticks : ℕ) where
   unfoldable pub resetIn : Bool
-  resetIn = rstSeen (s .registers) (s .lines) && not rst
+  resetIn = rstSeen s && not rst
 
   unfoldable pub risesIn : Bool
-  risesIn = s .lines .req && not req && not (rstSeen (s .registers) (s .lines))
+  risesIn = s .lines .req && not req && not (rstSeen s)
 
   unfoldable pub badIn : Bool → Bool
   badIn rises =
       rises
-      && (connected (s .registers) (s .lines) && s .lines .io && s .registers .sxfrctl1 .enspchk && inboundEven (s .lines))
+      && (connected s && s .lines .io && s .registers .sxfrctl1 .enspchk && inboundEven (s .lines))
 
   unfoldable pub callIn : Bool → Bool
-  callIn rises = rises && matched (s .registers) (s .lines) && path (s .registers) && synchronous (s .registers) (s .lines)
+  callIn rises = rises && matched s && path (s .registers) && synchronous s
 
   abbrev pub pastIn : Bool
   pastIn = leb (limit (s .registers)) (s .transfer .offset) || (s .lines .io && leb 8 held)

@@ -11,7 +11,8 @@ use Rattle.rules.specs.StepB.{parityBad, beyondLimit, lateByte}
 use Rattle.rules.specs.declared.registers.Registers.{Registers}
 use Rattle.rules.specs.declared.records.Lines.{Lines}
 use Rattle.edges.specs.declared.edges.Edges.{Edges}
-use Rattle.image.specs.Image.{imageOf, stateAt, registersAt, linesAt, withTransfer, withStatus, withQuiet}
+use Rattle.rules.specs.Changed.{withTransfer, withStatus, withQuiet}
+use Rattle.image.specs.Image.{imageOf, stateAt, registersAt, linesAt}
 use Rattle.edges.specs.From.{rstRisesFrom, reqRisesFrom, synchronousReqFrom, quietFrom, edgesFrom, appliedFrom}
 use Rattle.edges.specs.Parts.{registersB, transferB, statusB, storedB, countedB}
 use Rattle.edges.specs.Frequent.{raisedB, phaseB, inboundB, callB, risenB, releasedB, initB, reqB}
@@ -35,13 +36,13 @@ released-alone false = refl
 abbrev plainB : Edges → Bool → ℕ → State → State
 plainB g was byte s =
     withQuiet (g .quiet)
-    (withStatus (raisedB (mismatched (s .registers) (s .lines) && not was) (g .reqrises) (g .late) (s .status)) (withTransfer (countedB false (g .counted) (g .reqfalls) (storedB (g .stored) byte (s .transfer))) s))
+    (withStatus (raisedB (mismatched s && not was) (g .reqrises) (g .late) (s .status)) (withTransfer (countedB false (g .counted) (g .reqfalls) (storedB (g .stored) byte (s .transfer))) s))
 
-applied-plain : (g : Edges) (was : Bool) (s : State) → g .rstrises ≡ false → g .paritybad ≡ false → g .free ≡ false → appliedFrom g was s ≡ plainB g was (dataSeen (s .registers) (s .lines) (s .transfer)) s
+applied-plain : (g : Edges) (was : Bool) (s : State) → g .rstrises ≡ false → g .paritybad ≡ false → g .free ≡ false → appliedFrom g was s ≡ plainB g was (dataSeen s) s
 unfolding appliedFrom registersB transferB statusB
 applied-plain g was s a b d = rw (a, b, d, released-alone)
 
-plain-parts : (rst req was : Bool) (s : State) (ticks : ℕ) → plainB (edgesFrom rst req s ticks) was (dataSeen (s .registers) (s .lines) (s .transfer)) s ≡ reqB req (phaseB was (withQuiet (quietFrom rst s ticks) s))
+plain-parts : (rst req was : Bool) (s : State) (ticks : ℕ) → plainB (edgesFrom rst req s ticks) was (dataSeen s) s ≡ reqB req (phaseB was (withQuiet (quietFrom rst s ticks) s))
 unfolding edgesFrom reqB reqRisesFrom synchronousReqFrom beyondLimit lateByte
 plain-parts rst req was s ticks =
     rw (inbound-byte (s .registers) (s .lines) (s .transfer) (synchronousReqFrom req s && not (beyondLimit s)) (s .transfer .scsi))
@@ -55,7 +56,7 @@ frequent rst req was s ticks a b d =
 pub phase-kept : (was : Bool) (s : State) → was ≡ true → phaseB was s ≡ s
 phase-kept was s e = rw (e, and-false)
 
-pub phase-as : (was : Bool) (s : State) {seen : Bool} → was ≡ false → seen ≡ mismatched (s .registers) (s .lines) → withStatus (raisedB seen false false (s .status)) s ≡ phaseB was s
+pub phase-as : (was : Bool) (s : State) {seen : Bool} → was ≡ false → seen ≡ mismatched s → withStatus (raisedB seen false false (s .status)) s ≡ phaseB was s
 phase-as was s e f = rw (e, f, and-true)
 
 -- an inbound byte, where IO is seen

@@ -87,20 +87,20 @@ phased changed k =
     }
 
 abbrev phasedIn : Bool → State → State
-phasedIn was n = withStatus (phased (mismatched (n .registers) (n .lines) && not was) (n .status)) n
+phasedIn was n = withStatus (phased (mismatched n && not was) (n .status)) n
 
 abbrev endsBy : Bool → Bool → ℕ → State → State
 endsBy was free quiet n = phasedIn was (cond free (busFreed (withQuiet quiet n)) (withQuiet quiet n))
 
-phase-step : (last n : State) → afterPhaseChanges last n ≡ phasedIn (mismatched (last .registers) (last .lines)) n
+phase-step : (last n : State) → afterPhaseChanges last n ≡ phasedIn (mismatched last) n
 unfolding afterPhaseChanges phaseChanges phaseChanged
-phase-step last n = go (mismatched (n .registers) (n .lines) && not (mismatched (last .registers) (last .lines)))
+phase-step last n = go (mismatched n && not (mismatched last))
   where
     go : (b : Bool) → cond b (phaseChanged n) n ≡ withStatus (phased b (n .status)) n
     go true = refl
     go false = refl
 
-two-steps : (last : State) (ticks : ℕ) (n : State) → afterPhaseChanges last (afterQuietTicks ticks n) ≡ endsBy (mismatched (last .registers) (last .lines)) (busFree ticks n) (quietAfter ticks n) n
+two-steps : (last : State) (ticks : ℕ) (n : State) → afterPhaseChanges last (afterQuietTicks ticks n) ≡ endsBy (mismatched last) (busFree ticks n) (quietAfter ticks n) n
 unfolding afterQuietTicks
 two-steps last ticks n = phase-step last (afterQuietTicks ticks n)
 
@@ -129,7 +129,7 @@ risenEdges now free quiet =
       paritybad = parityBad now;
       beyond = synchronousReq now && beyondLimit now;
       counted = countedReq now;
-      stored = countedReq now && ioSeen (now .registers) (now .lines);
+      stored = countedReq now && ioSeen now;
       late = countedReq now && lateByte now;
       free = free;
       quiet = quiet;
@@ -169,9 +169,9 @@ module _ (was : Bool) (now : State) where
   stored-last true l b = refl
   stored-last false l b = sym (append-nil l)
 
-  stored-as : cond (countedReq now && ioSeen (now .registers) (now .lines)) (now .transfer .scsi ++ (dataSeen (now .registers) (now .lines) (now .transfer) ∷ [])) (now .transfer .scsi) ≡ now .transfer .scsi ++ storedByte now
+  stored-as : cond (countedReq now && ioSeen now) (now .transfer .scsi ++ (dataSeen now ∷ [])) (now .transfer .scsi) ≡ now .transfer .scsi ++ storedByte now
   unfolding storedByte
-  stored-as = stored-last (countedReq now && ioSeen (now .registers) (now .lines)) (now .transfer .scsi) _
+  stored-as = stored-last (countedReq now && ioSeen now) (now .transfer .scsi) _
 
   applied-risen : (free : Bool) (quiet : ℕ) → appliedFrom (risenEdges now free quiet) was now ≡ endsBy was free quiet (reqRisen now)
   unfolding appliedFrom registersB transferB statusB attention reqRisen busFreed
@@ -180,17 +180,17 @@ module _ (was : Bool) (now : State) where
 
 module _ (last : State) (ticks : ℕ) (now : State) where
   abbrev rst : Bool
-  rst = rstSeen (last .registers) (last .lines)
+  rst = rstSeen last
 
   abbrev req : Bool
-  req = reqSeen (last .registers) (last .lines)
+  req = reqSeen last
 
   abbrev was : Bool
-  was = mismatched (last .registers) (last .lines)
+  was = mismatched last
 
   edges-reset : rstRises last now ≡ true → edgesFrom rst req now ticks ≡ resetEdges (reqFalls last now) (busFree ticks (busReset now)) (quietAfter ticks (busReset now))
   unfolding edgesFrom rstRisesFrom reqRisesFrom synchronousReqFrom quietFrom reqFalls rstRises busReset quietAfter busFree registersB bsySeen selSeen
-  edges-reset r = rw (r, left-true (rstSeen (now .registers) (now .lines)) (not rst) r, and-false)
+  edges-reset r = rw (r, left-true (rstSeen now) (not rst) r, and-false)
 
   edges-risen : rstRises last now ≡ false → reqRises last now ≡ true → edgesFrom rst req now ticks ≡ risenEdges now (busFree ticks (reqRisen now)) (quietAfter ticks (reqRisen now))
   unfolding edgesFrom rstRisesFrom reqRisesFrom synchronousReqFrom quietFrom reqFalls rstRises reqRises synchronousReq countedReq reqRisen quietAfter busFree registersB bsySeen selSeen

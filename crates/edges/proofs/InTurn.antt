@@ -9,7 +9,8 @@ use Rattle.rules.specs.State.{State}
 use Rattle.rules.specs.Seen.{rstSeen, selSeen, bsySeen, connected}
 use Rattle.rules.specs.StepB.{parityBad, beyondLimit}
 use Rattle.edges.specs.Parts.{registersB}
-use Rattle.image.specs.Image.{imageOf, stateAt, registersAt, linesAt, withQuiet}
+use Rattle.rules.specs.Changed.{withQuiet}
+use Rattle.image.specs.Image.{imageOf, stateAt, registersAt, linesAt}
 use Rattle.edges.specs.Inbound.{inboundEven}
 use Rattle.edges.specs.From.{rstRisesFrom, reqRisesFrom, synchronousReqFrom, quietFrom, edgesFrom, appliedFrom}
 use Rattle.edges.specs.Frequent.{phaseB, reqB}
@@ -19,7 +20,7 @@ use Rattle.edges.proofs.Frequent.{frequent}
 
 -- the tests, of the state
 module _ (m : List ℕ) (rst req : Bool) (ticks : ℕ) where
-  pub no-reset : {b : Bool} → b ≡ (rstSeen (registersAt m) (linesAt m) && not rst) → b ≡ false → rstRisesFrom rst (stateAt m) ≡ false
+  pub no-reset : {b : Bool} → b ≡ (rstSeen (stateAt m) && not rst) → b ≡ false → rstRisesFrom rst (stateAt m) ≡ false
   unfolding rstRisesFrom stateAt
   no-reset e f = sym e ∙ f
 
@@ -27,7 +28,7 @@ module _ (m : List ℕ) (rst req : Bool) (ticks : ℕ) where
   unfolding quietFrom stateAt
   quiet-is a e = rw a e
 
-  pub no-error : {b : Bool} → b ≡ ((linesAt m) .req && not req && not (rstSeen (registersAt m) (linesAt m)) && (connected (registersAt m) (linesAt m) && (linesAt m) .io && (registersAt m) .sxfrctl1 .enspchk && inboundEven (linesAt m))) → b ≡ false → (reqRisesFrom req (stateAt m) && parityBad (stateAt m)) ≡ false
+  pub no-error : {b : Bool} → b ≡ ((linesAt m) .req && not req && not (rstSeen (stateAt m)) && (connected (stateAt m) && (linesAt m) .io && (registersAt m) .sxfrctl1 .enspchk && inboundEven (linesAt m))) → b ≡ false → (reqRisesFrom req (stateAt m) && parityBad (stateAt m)) ≡ false
   unfolding reqRisesFrom parityBad stateAt
   no-error e f = rw (inbound-checked ((stateAt m) .registers) ((stateAt m) .lines) ((stateAt m) .transfer)) (sym e ∙ f)
 

@@ -17,7 +17,8 @@ use Rattle.rules.specs.declared.registers.Scsisig.{Scsisig}
 use Rattle.rules.specs.declared.registers.Registers.{Registers}
 use Rattle.rules.specs.declared.chip.Status.{Status}
 use Rattle.edges.specs.declared.edges.Edges.{Edges}
-use Rattle.image.specs.Image.{imageOf, stateAt, IsImage, headOf, scsisigByte, statusOf, statusByte, withRegisters, withTransfer, withStatus, withQuiet}
+use Rattle.rules.specs.Changed.{withRegisters, withTransfer, withStatus, withQuiet}
+use Rattle.image.specs.Image.{imageOf, stateAt, IsImage, headOf, scsisigByte, statusOf, statusByte}
 use Rattle.image.proofs.EightBits.{is-one, bit-0, bit-1, bit-2, bit-3, bit-4, bit-5, bit-6, bit-7}
 use Rattle.laws.proofs.Lists.{padded-push, padded-length}
 use Rattle.edges.specs.Parts.{scsiseqB, sxfrctl0B, scsisigB, registersB, transferB, storedB, countedB}

@@ -35,7 +35,7 @@ module _ (rst req : Bool) (s : State) (ticks : ℕ) where
   scsi-room : (edgesFrom rst req s ticks) .stored ≡ true → length (s .transfer .scsi) < 8
   unfolding edgesFrom beyondLimit
   scsi-room e =
-      leb-false 8 (length (s .transfer .scsi)) (stored-room (synchronousReqFrom req s) (leb (limit (s .registers)) (s .transfer .offset)) (ioSeen (s .registers) (s .lines)) (leb 8 (length (s .transfer .scsi))) e)
+      leb-false 8 (length (s .transfer .scsi)) (stored-room (synchronousReqFrom req s) (leb (limit (s .registers)) (s .transfer .offset)) (ioSeen s) (leb 8 (length (s .transfer .scsi))) e)
 
   pub room-from : Room (edgesFrom rst req s ticks) (s .transfer)
   room-from = record { counted = offset-room; stored = scsi-room }

@@ -13,22 +13,23 @@ use Rattle.rules.specs.StepB.{parityBad, beyondLimit, lateByte}
 use Rattle.edges.specs.Parts.{registersB, transferB, statusB}
 use Rattle.edges.specs.declared.edges.Edges.{Edges}
 use Rattle.rules.proofs.Logic.{left-true, right-true}
-use Rattle.image.specs.Image.{imageOf, stateAt, registersAt, linesAt, withQuiet, IsImage}
+use Rattle.rules.specs.Changed.{withQuiet}
+use Rattle.image.specs.Image.{imageOf, stateAt, registersAt, linesAt, IsImage}
 use Rattle.edges.specs.declared.last.Seen.{Seen}
 use Rattle.edges.specs.From.{rstRisesFrom, reqRisesFrom, synchronousReqFrom, quietFrom, edgesFrom, appliedFrom}
 use Rattle.edges.specs.Since.{seenOf, rstOf, reqOf, mismatchedOf}
 use Rattle.edges.proofs.Placed.{quiet-placed}
 
 -- what is read off the four bytes of an array is what is seen there
-pub rst-of : (m : List ℕ) → rstOf (seenOf m) ≡ rstSeen (registersAt m) (linesAt m)
+pub rst-of : (m : List ℕ) → rstOf (seenOf m) ≡ rstSeen (stateAt m)
 unfolding rstOf rstSeen
 rst-of m = refl
 
-pub req-of : (m : List ℕ) → reqOf (seenOf m) ≡ reqSeen (registersAt m) (linesAt m)
+pub req-of : (m : List ℕ) → reqOf (seenOf m) ≡ reqSeen (stateAt m)
 unfolding reqOf
 req-of m = refl
 
-pub mismatched-of : (m : List ℕ) → mismatchedOf (seenOf m) ≡ mismatched (registersAt m) (linesAt m)
+pub mismatched-of : (m : List ℕ) → mismatchedOf (seenOf m) ≡ mismatched (stateAt m)
 unfolding mismatchedOf mismatched connected matched bsySeen selSeen rstSeen
 mismatched-of m = refl
 
@@ -78,10 +79,10 @@ stillAt q = record { reqfalls = false; rstrises = false; reqrises = false; parit
 
 module _ (s : State) where
   abbrev rst : Bool
-  rst = rstSeen (s .registers) (s .lines)
+  rst = rstSeen s
 
   abbrev req : Bool
-  req = reqSeen (s .registers) (s .lines)
+  req = reqSeen s
 
   still : edgesFrom rst req s 0 ≡ stillAt (quietFrom rst s 0)
   unfolding edgesFrom rstRisesFrom reqRisesFrom synchronousReqFrom quietFrom
@@ -91,12 +92,12 @@ module _ (s : State) where
   unfolding quietFrom rstRisesFrom
   quiet-still = rw (and-not rst)
 
-  unmoved : (q : ℕ) → appliedFrom (stillAt q) (mismatched (s .registers) (s .lines)) s ≡ withQuiet q s
+  unmoved : (q : ℕ) → appliedFrom (stillAt q) (mismatched s) s ≡ withQuiet q s
   unfolding appliedFrom registersB transferB statusB
-  unmoved q = rw (and-not (mismatched (s .registers) (s .lines)))
+  unmoved q = rw (and-not (mismatched s))
 
-  still-applied : appliedFrom (edgesFrom rst req s 0) (mismatched (s .registers) (s .lines)) s ≡ withQuiet (quietFrom rst s 0) s
-  still-applied = ap (λ (g : Edges). appliedFrom g (mismatched (s .registers) (s .lines)) s) still ∙ unmoved (quietFrom rst s 0)
+  still-applied : appliedFrom (edgesFrom rst req s 0) (mismatched s) s ≡ withQuiet (quietFrom rst s 0) s
+  still-applied = ap (λ (g : Edges). appliedFrom g (mismatched s) s) still ∙ unmoved (quietFrom rst s 0)
 
   still-beyond : false ≡ (edgesFrom rst req s 0) .beyond
   still-beyond = ap (λ (g : Edges). g .beyond) (sym still)
@@ -105,15 +106,15 @@ module _ (m : List ℕ) (g : IsImage m) (x : Seen) (e : seenOf m ≡ x) {ticks :
   abbrev s : State
   s = stateAt m
 
-  rst-is : rstSeen (s .registers) (s .lines) ≡ rstOf x
+  rst-is : rstSeen s ≡ rstOf x
   unfolding stateAt
   rst-is = sym (rst-of m) ∙ ap rstOf e
 
-  req-is : reqSeen (s .registers) (s .lines) ≡ reqOf x
+  req-is : reqSeen s ≡ reqOf x
   unfolding stateAt
   req-is = sym (req-of m) ∙ ap reqOf e
 
-  mismatched-is : mismatched (s .registers) (s .lines) ≡ mismatchedOf x
+  mismatched-is : mismatched s ≡ mismatchedOf x
   unfolding stateAt
   mismatched-is = sym (mismatched-of m) ∙ ap mismatchedOf e
 

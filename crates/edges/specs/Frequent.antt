@@ -4,7 +4,7 @@ use Rattle.rules.specs.State.{State}
 use Rattle.rules.specs.Seen.{matched, mismatched, path, synchronous}
 use Rattle.rules.specs.StepB.{beyondLimit, lateByte}
 use Rattle.rules.specs.declared.chip.Status.{Status}
-use Rattle.image.specs.Image.{withTransfer, withStatus}
+use Rattle.rules.specs.Changed.{withTransfer, withStatus}
 use Rattle.edges.specs.From.{reqRisesFrom, synchronousReqFrom}
 use Rattle.edges.specs.Parts.{storedB, countedB}
 
@@ -24,7 +24,7 @@ raisedB phase req late t =
 
 -- "PHASECHG is set when "connected and not matched" is true here and was false"
 abbrev pub phaseB : Bool → State → State
-phaseB was s = withStatus (raisedB (mismatched (s .registers) (s .lines) && not was) false false (s .status)) s
+phaseB was s = withStatus (raisedB (mismatched s && not was) false false (s .status)) s
 
 -- "inbound with offset 0 and the SCSI FIFO not empty sets SYNCERR"; "an inbound byte is stored"
 abbrev pub inboundB : Bool → State → State
@@ -33,7 +33,7 @@ inboundB counted s =
 
 -- "If matched, path and synchronous"
 abbrev pub callB : State → Bool
-callB s = matched (s .registers) (s .lines) && path (s .registers) && synchronous (s .registers) (s .lines)
+callB s = matched s && path (s .registers) && synchronous s
 
 -- a synchronous REQ: beyond the limit it is not counted
 abbrev pub risenB : Bool → State → State

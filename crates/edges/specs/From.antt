@@ -9,15 +9,15 @@ use Rattle.edges.specs.declared.edges.Edges.{Edges}
 use lib.Dec.{leb}
 
 unfoldable pub rstRisesFrom : Bool → State → Bool
-rstRisesFrom rst now = rstSeen (now .registers) (now .lines) && not rst
+rstRisesFrom rst now = rstSeen now && not rst
 
 unfoldable pub reqRisesFrom : Bool → State → Bool
-reqRisesFrom req now = reqSeen (now .registers) (now .lines) && not req && not (rstSeen (now .registers) (now .lines))
+reqRisesFrom req now = reqSeen now && not req && not (rstSeen now)
 
 unfoldable pub synchronousReqFrom : Bool → State → Bool
 synchronousReqFrom req now =
-    reqRisesFrom req now && matched (now .registers) (now .lines) && path (now .registers)
-    && synchronous (now .registers) (now .lines)
+    reqRisesFrom req now && matched now && path (now .registers)
+    && synchronous now
 
 unfoldable pub quietFrom : Bool → State → ℕ → ℕ
 quietFrom rst now ticks =
@@ -28,13 +28,13 @@ quietFrom rst now ticks =
 unfoldable pub edgesFrom : Bool → Bool → State → ℕ → Edges
 edgesFrom rst req now ticks =
     record {
-      reqfalls = req && not (reqSeen (now .registers) (now .lines));
+      reqfalls = req && not (reqSeen now);
       rstrises = rstRisesFrom rst now;
       reqrises = reqRisesFrom req now;
       paritybad = reqRisesFrom req now && parityBad now;
       beyond = synchronousReqFrom req now && beyondLimit now;
       counted = synchronousReqFrom req now && not (beyondLimit now);
-      stored = synchronousReqFrom req now && not (beyondLimit now) && ioSeen (now .registers) (now .lines);
+      stored = synchronousReqFrom req now && not (beyondLimit now) && ioSeen now;
       late = synchronousReqFrom req now && not (beyondLimit now) && lateByte now;
       free = leb 8 (quietFrom rst now ticks) && not (leb 8 (now .quiet));
       quiet = quietFrom rst now ticks;
@@ -47,7 +47,7 @@ appliedFrom g was now =
     record {
       lines = now .lines;
       registers = r;
-      transfer = transferB g (dataSeen (now .registers) (now .lines) (now .transfer)) (now .transfer);
+      transfer = transferB g (dataSeen now) (now .transfer);
       status = statusB g (mismatched r (now .lines) && not was) (now .status);
       latches = now .latches;
       stack = now .stack;

@@ -15,10 +15,10 @@ abbrev pub spread : Seen → List ℕ
 spread x = set (set (set (set (replicate 196 0) 0 (x .seq)) 3 (x .sig)) 15 (x .upper)) 16 (x .control)
 
 unfoldable pub rstOf : Seen → Bool
-rstOf x = rstSeen (registersAt (spread x)) (linesAt (spread x))
+rstOf x = rstSeen (stateAt (spread x))
 
 unfoldable pub reqOf : Seen → Bool
-reqOf x = reqSeen (registersAt (spread x)) (linesAt (spread x))
+reqOf x = reqSeen (stateAt (spread x))
 
 unfoldable pub mismatchedOf : Seen → Bool
-mismatchedOf x = mismatched (registersAt (spread x)) (linesAt (spread x))
+mismatchedOf x = mismatched (stateAt (spread x))

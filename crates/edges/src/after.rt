@@ -7,7 +7,8 @@ ghost use lib.ListN.{getD};
 ghost use Rattle.rules.specs.Numbers.{one};
 ghost use Rattle.rules.specs.Registers.{scsiseqOf, scsiseqByte, sxfrctl0Of, sxfrctl0Byte, scsisigOf};
 ghost use Rattle.rules.specs.Seen.{dataSeen};
-ghost use Rattle.image.specs.Image.{imageOf, stateAt, registersAt, linesAt, transferAt, IsImage, scsisigByte, statusOf, statusByte, withTransfer};
+ghost use Rattle.rules.specs.Changed.{withTransfer};
+ghost use Rattle.image.specs.Image.{imageOf, stateAt, registersAt, linesAt, transferAt, IsImage, scsisigByte, statusOf, statusByte};
 ghost use Rattle.edges.specs.Parts.{scsiseqB, sxfrctl0B, scsisigB, transferB, statusB};
 ghost use Rattle.edges.specs.Room.{Room};
 ghost use Rattle.edges.specs.Stored.{registersStored, byteStored, countStored, statusStored};
@@ -115,7 +116,7 @@ pub fn registers_in(m: &mut [u8; 196], reset: bool, bad: bool, free: bool)
 
 // The byte that is stored; where none is, what is seen need not be known.
 pub fn byte_seen(m: &[u8; 196], stored: bool) -> u8
-    ensures { λ b. ⌜ b ≡ cond stored (dataSeen (registersAt (now (m .entry))) (linesAt (now (m .entry))) (transferAt (now (m .entry)))) 0 ⌝ }
+    ensures { λ b. ⌜ b ≡ cond stored (dataSeen (stateAt (now (m .entry)))) 0 ⌝ }
 {
     if stored { data_seen(m) } else { 0 }
 }

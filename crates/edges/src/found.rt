@@ -18,21 +18,21 @@ use parity::is_even;
 
 // "RST rises"
 pub fn rst_rises(m: &[u8; 196], was: bool) -> bool
-    ensures { λ b. ⌜ b ≡ (rstSeen (registersAt (now (m .entry))) (linesAt (now (m .entry))) && not was) ⌝ }
+    ensures { λ b. ⌜ b ≡ (rstSeen (stateAt (now (m .entry))) && not was) ⌝ }
 {
     rst_seen(m) & !was
 }
 
 // "REQ rises and RST not seen"
 pub fn req_rises(m: &[u8; 196], was: bool) -> bool
-    ensures { λ b. ⌜ b ≡ ((linesAt (now (m .entry))) .req && not was && not (rstSeen (registersAt (now (m .entry))) (linesAt (now (m .entry))))) ⌝ }
+    ensures { λ b. ⌜ b ≡ ((linesAt (now (m .entry))) .req && not was && not (rstSeen (stateAt (now (m .entry))))) ⌝ }
 {
     ((m[16] >> 1) % 2 == 1) & !was & !rst_seen(m)
 }
 
 // Is this REQ to be checked for parity?
 fn checked(m: &[u8; 196]) -> bool
-    ensures { λ b. ⌜ b ≡ (connected (registersAt (now (m .entry))) (linesAt (now (m .entry))) && (linesAt (now (m .entry))) .io && (registersAt (now (m .entry))) .sxfrctl1 .enspchk) ⌝ }
+    ensures { λ b. ⌜ b ≡ (connected (stateAt (now (m .entry))) && (linesAt (now (m .entry))) .io && (registersAt (now (m .entry))) .sxfrctl1 .enspchk) ⌝ }
 {
     if (m[2] >> 5) % 2 == 1 {
         if (m[16] >> 6) % 2 == 1 {
@@ -47,7 +47,7 @@ fn checked(m: &[u8; 196]) -> bool
 
 // A parity error; the ones are only counted where it is to be checked.
 fn inbound_bad(m: &[u8; 196]) -> bool
-    ensures { λ b. ⌜ b ≡ (connected (registersAt (now (m .entry))) (linesAt (now (m .entry))) && (linesAt (now (m .entry))) .io && (registersAt (now (m .entry))) .sxfrctl1 .enspchk && inboundEven (linesAt (now (m .entry)))) ⌝ }
+    ensures { λ b. ⌜ b ≡ (connected (stateAt (now (m .entry))) && (linesAt (now (m .entry))) .io && (registersAt (now (m .entry))) .sxfrctl1 .enspchk && inboundEven (linesAt (now (m .entry)))) ⌝ }
 {
     if checked(m) {
         is_even(m[14], (m[15] >> 1) % 2 == 1)
@@ -58,14 +58,14 @@ fn inbound_bad(m: &[u8; 196]) -> bool
 
 // A parity error at a REQ that rises.
 pub fn parity_bad(m: &[u8; 196], rises: bool) -> bool
-    ensures { λ b. ⌜ b ≡ (rises && (connected (registersAt (now (m .entry))) (linesAt (now (m .entry))) && (linesAt (now (m .entry))) .io && (registersAt (now (m .entry))) .sxfrctl1 .enspchk && inboundEven (linesAt (now (m .entry))))) ⌝ }
+    ensures { λ b. ⌜ b ≡ (rises && (connected (stateAt (now (m .entry))) && (linesAt (now (m .entry))) .io && (registersAt (now (m .entry))) .sxfrctl1 .enspchk && inboundEven (linesAt (now (m .entry))))) ⌝ }
 {
     if rises { inbound_bad(m) } else { false }
 }
 
 // A parity error at a REQ that rises, where it is not yet known whether it does.
 pub fn checked_bad(m: &[u8; 196], was: bool) -> bool
-    ensures { λ b. ⌜ b ≡ ((linesAt (now (m .entry))) .req && not was && not (rstSeen (registersAt (now (m .entry))) (linesAt (now (m .entry)))) && (connected (registersAt (now (m .entry))) (linesAt (now (m .entry))) && (linesAt (now (m .entry))) .io && (registersAt (now (m .entry))) .sxfrctl1 .enspchk && inboundEven (linesAt (now (m .entry))))) ⌝ }
+    ensures { λ b. ⌜ b ≡ ((linesAt (now (m .entry))) .req && not was && not (rstSeen (stateAt (now (m .entry)))) && (connected (stateAt (now (m .entry))) && (linesAt (now (m .entry))) .io && (registersAt (now (m .entry))) .sxfrctl1 .enspchk && inboundEven (linesAt (now (m .entry))))) ⌝ }
 {
     if (m[2] >> 5) % 2 == 1 {
         parity_bad(m, req_rises(m, was))
@@ -76,7 +76,7 @@ pub fn checked_bad(m: &[u8; 196], was: bool) -> bool
 
 // "If matched, path and synchronous"
 pub fn synchronous_req(m: &[u8; 196], rises: bool) -> bool
-    ensures { λ b. ⌜ b ≡ (rises && matched (registersAt (now (m .entry))) (linesAt (now (m .entry))) && path (registersAt (now (m .entry))) && synchronous (registersAt (now (m .entry))) (linesAt (now (m .entry)))) ⌝ }
+    ensures { λ b. ⌜ b ≡ (rises && matched (stateAt (now (m .entry))) && path (registersAt (now (m .entry))) && synchronous (stateAt (now (m .entry)))) ⌝ }
 {
     if rises {
         if synchronous(m) {

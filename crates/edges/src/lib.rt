@@ -18,9 +18,9 @@ mod single;
 
 // What step B of the next event asks of this one.
 fn last_seen(m: &[u8; 196]) -> Before
-    ensures { λ b. ⌜ b .rst ≡ rstSeen (registersAt (now (m .entry))) (linesAt (now (m .entry))) ⌝ }
-    ensures { λ b. ⌜ b .req ≡ reqSeen (registersAt (now (m .entry))) (linesAt (now (m .entry))) ⌝ }
-    ensures { λ b. ⌜ b .mismatched ≡ mismatched (registersAt (now (m .entry))) (linesAt (now (m .entry))) ⌝ }
+    ensures { λ b. ⌜ b .rst ≡ rstSeen (stateAt (now (m .entry))) ⌝ }
+    ensures { λ b. ⌜ b .req ≡ reqSeen (stateAt (now (m .entry))) ⌝ }
+    ensures { λ b. ⌜ b .mismatched ≡ mismatched (stateAt (now (m .entry))) ⌝ }
 {
     Before {
         rst: rst_seen(m),

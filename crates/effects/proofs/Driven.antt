@@ -11,8 +11,9 @@ use Rattle.rules.specs.StepA.{clears, clearsLatch, clearsError, clrstcnt, clrch
 use Rattle.rules.specs.declared.codes.Code.the-variants.{Done}
 use Rattle.rules.specs.declared.records.Event.the-variants.{WordWrite, WordRead, Drive, Ticks}
 use Rattle.rules.specs.declared.records.Lines.{Lines}
-use Rattle.image.specs.Image.{stateAt, IsImage, withLines}
-use Rattle.datapath.specs.Ready.{withHost}
+use Rattle.rules.specs.Changed.{withLines}
+use Rattle.image.specs.Image.{stateAt, IsImage}
+use Rattle.rules.specs.Changed.{withHost}
 use Rattle.effects.specs.Writes.{kept}
 use Rattle.effects.proofs.Accesses as accesses
 use Rattle.effects.proofs.Coding.{code-at-is, held-fits}

@@ -14,8 +14,10 @@ use Rattle.rules.specs.StepA.{latchAccess, automaticAck, statusA, latchesA}
 use Rattle.rules.specs.declared.codes.Code.the-variants.{Done}
 use Rattle.rules.specs.declared.map.Register.the-variants.{SCSISEQ, SXFRCTL1, SCSISIGO, SCSIRATE, SCSIID, SIMODE0, SIMODE1, BRSTCNTRL}
 use Rattle.rules.specs.declared.records.Event.the-variants.{Write, WordRead}
-use Rattle.image.specs.Image.{stateAt, IsImage, withStatus, withLatches, withStack}
-use Rattle.datapath.specs.Ready.{withHost, counterWritten}
+use Rattle.rules.specs.Changed.{withStatus, withLatches, withStack}
+use Rattle.image.specs.Image.{stateAt, IsImage}
+use Rattle.rules.specs.Changed.{withHost}
+use Rattle.datapath.specs.Ready.{counterWritten}
 use Rattle.effects.specs.Writes.{Leaving, Does, Plain, storing, kept, channelCleared, counterCleared, hostCleared, ackCounted}
 use Rattle.effects.proofs.Reached.{Leaves}
 use Rattle.effects.proofs.WriteCodes.{write-code, Test, test-done}

@@ -35,6 +35,6 @@ module _ {m : List ℕ} (g : IsImage m) (e : Event) (f : EventFits e) (d : acces
   a-bytes = bytes-after-a (stateAt m) e f (g .bytes)
 
 -- the Automatic ACK as the code judges it
-pub acked-is : (m : List ℕ) (e : Event) {x y : Bool} → x ≡ latchAccess (stateAt m) e → y ≡ (x && automatic (registersAt m) && matched (registersAt m) (linesAt m) && reqSeen (registersAt m) (linesAt m)) → y ≡ automaticAck (stateAt m) e
+pub acked-is : (m : List ℕ) (e : Event) {x y : Bool} → x ≡ latchAccess (stateAt m) e → y ≡ (x && automatic (registersAt m) && matched (stateAt m) && reqSeen (stateAt m)) → y ≡ automaticAck (stateAt m) e
 unfolding automaticAck stateAt
-acked-is m e p h = h ∙ ap (λ (x : Bool). x && automatic (registersAt m) && matched (registersAt m) (linesAt m) && reqSeen (registersAt m) (linesAt m)) p
+acked-is m e p h = h ∙ ap (λ (x : Bool). x && automatic (registersAt m) && matched (stateAt m) && reqSeen (stateAt m)) p

@@ -13,7 +13,8 @@ use Rattle.rules.specs.declared.registers.Registers.{Registers}
 use Rattle.rules.specs.declared.codes.Code.the-variants.{Done}
 use Rattle.rules.specs.declared.records.Event.{Event}
 use Rattle.rules.specs.declared.records.Event.the-variants.{Write}
-use Rattle.image.specs.Image.{imageOf, stateAt, IsImage, withLines, withRegisters, withTransfer, withStatus, withLatches, withStack}
+use Rattle.rules.specs.Changed.{withLines, withRegisters, withTransfer, withStatus, withLatches, withStack}
+use Rattle.image.specs.Image.{imageOf, stateAt, IsImage}
 use Rattle.effects.specs.declared.Acted.{Acted}
 use Rattle.effects.specs.Acting.{Acts, doneWith}
 use Rattle.effects.proofs.Endings.{acts-done}

@@ -17,7 +17,8 @@ use Rattle.rules.specs.declared.codes.Code.the-variants.{Done, Absent}
 use Rattle.rules.specs.declared.map.Register.{Register}
 use Rattle.rules.specs.declared.map.Mapped.the-variants.{Present, Missing}
 use Rattle.rules.specs.declared.records.Event.the-variants.{Read, WordRead}
-use Rattle.image.specs.Image.{imageOf, stateAt, IsImage, withStatus}
+use Rattle.rules.specs.Changed.{withStatus}
+use Rattle.image.specs.Image.{imageOf, stateAt, IsImage}
 use Rattle.effects.specs.declared.Acted.{Acted}
 use Rattle.effects.specs.Acting.{Acts, refusedAs, doneWith}
 use Rattle.effects.specs.CodeBy.{shutTo, firstOf}

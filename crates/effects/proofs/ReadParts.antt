@@ -15,8 +15,9 @@ use Rattle.rules.specs.StepA.{clears, clearsLatch, clrstcnt, clrch, rstfifo, la
 use Rattle.rules.specs.declared.map.Register.{Register}
 use Rattle.rules.specs.declared.map.Mapped.the-variants.{Present}
 use Rattle.rules.specs.declared.records.Event.the-variants.{Read}
-use Rattle.image.specs.Image.{stateAt, withStack, withIdentity}
-use Rattle.datapath.specs.Ready.{withHost}
+use Rattle.rules.specs.Changed.{withStack, withIdentity}
+use Rattle.image.specs.Image.{stateAt}
+use Rattle.rules.specs.Changed.{withHost}
 use Rattle.effects.specs.Writes.{ackCounted}
 use Rattle.effects.proofs.ReadLaws.{unheld}
 

@@ -14,8 +14,8 @@ use Rattle.rules.specs.StepA.{latchAccess, automaticAck, registersA, transferA,
 use Rattle.rules.specs.declared.codes.Code.the-variants.{Done}
 use Rattle.rules.specs.declared.map.Register.{Register}
 use Rattle.rules.specs.declared.records.Event.the-variants.{Write, WordRead}
-use Rattle.image.specs.Image.{withRegisters, withStatus}
-use Rattle.datapath.specs.Ready.{withHost, withScsi, withCounter, withOffset, withAck}
+use Rattle.rules.specs.Changed.{withRegisters, withStatus}
+use Rattle.rules.specs.Changed.{withHost, withScsi, withCounter, withOffset, withAck}
 use Rattle.writes.specs.Found.{Written}
 
 -- what is written is stored

@@ -20,7 +20,7 @@ use writes::storing::stored;
 
 // "if Automatic, matched and REQ is seen"
 fn automatic_ack(m: &[u8; 196], accessed: bool) -> bool
-    ensures { λ b. ⌜ b ≡ (accessed && automatic (registersAt (now (m .entry))) && matched (registersAt (now (m .entry))) (linesAt (now (m .entry))) && reqSeen (registersAt (now (m .entry))) (linesAt (now (m .entry)))) ⌝ }
+    ensures { λ b. ⌜ b ≡ (accessed && automatic (registersAt (now (m .entry))) && matched (stateAt (now (m .entry))) && reqSeen (stateAt (now (m .entry)))) ⌝ }
 {
     if accessed {
         automatic(m) & matched(m) & ((m[16] >> 1) % 2 == 1)

@@ -9,7 +9,7 @@ use Rattle.rules.specs.Ranges.{InRange, InBytes}
 use Rattle.rules.specs.declared.records.Event.{Event}
 use Rattle.rules.specs.declared.chip.Latches.{Latches}
 use Rattle.rules.proofs.Ranges.{settled-fits, settled-bytes}
-use Rattle.image.specs.Image.{withTransfer, withLatches}
+use Rattle.rules.specs.Changed.{withTransfer, withLatches}
 use Rattle.interrupts.proofs.Steady.{latches-from-registers}
 use Rattle.event.specs.Closing.{raisedBy, fallenBy, closedBy}
 

@@ -89,7 +89,7 @@ pub record Onward (y : Stepped) (m : List ℕ) (x : Seen) (before0 before1 ticks
   pub ready : Ready m x before0 before1 ticks value
   pub step : done (ready .state) (ready .event) ≡ y
 
-module _ (s : State) (i : InRange s) (j : InBytes s) {m : List ℕ} (a : Acted) {seen : Seen} {before0 before1 : ℕ} (p : rstOf seen ≡ rstSeen (s .registers) (s .lines)) (q : reqOf seen ≡ reqSeen (s .registers) (s .lines)) (r : mismatchedOf seen ≡ mismatched (s .registers) (s .lines)) (y : simode0Of before0 ≡ s .registers .simode0) (z : simode1Of before1 ≡ s .registers .simode1) where
+module _ (s : State) (i : InRange s) (j : InBytes s) {m : List ℕ} (a : Acted) {seen : Seen} {before0 before1 : ℕ} (p : rstOf seen ≡ rstSeen s) (q : reqOf seen ≡ reqSeen s) (r : mismatchedOf seen ≡ mismatched s) (y : simode0Of before0 ≡ s .registers .simode0) (z : simode1Of before1 ≡ s .registers .simode1) where
   acts-onward : (e : Event) → EventFits e → Acts s e m a → a .ends ≡ false → Onward (access s e) m seen before0 before1 (a .ticks) (a .value)
   acts-onward e f x h =
       let t : isDone (accessCode s e) ≡ true = not-false (isDone (accessCode s e)) (x .ends) h in

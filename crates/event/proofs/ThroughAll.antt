@@ -19,7 +19,8 @@ use Rattle.rules.specs.declared.records.Event.{Event}
 use Rattle.rules.specs.declared.registers.Simode0.{Simode0}
 use Rattle.rules.specs.declared.registers.Simode1.{Simode1}
 use Rattle.rules.specs.declared.chip.Status.{Status}
-use Rattle.image.specs.Image.{imageOf, stateAt, registersAt, IsImage, withTransfer}
+use Rattle.rules.specs.Changed.{withTransfer}
+use Rattle.image.specs.Image.{imageOf, stateAt, registersAt, IsImage}
 use Rattle.settling.specs.Parts.{startOf}
 use Rattle.settling.specs.declared.Told.{Told}
 use Rattle.settling.specs.Settles.{endOf, Settles}

@@ -38,7 +38,7 @@ module _ (s : State) (i : InRange s) (j : InBytes s) (e : Event) (f : EventFits 
   pub b-bytes : InBytes (afterB s e)
   b-bytes = bytes-after-b s e a-bytes
 
-  module _ {rst req : Bool} (p : rst ≡ rstSeen (s .registers) (s .lines)) (q : req ≡ reqSeen (s .registers) (s .lines)) {ticks : ℕ} (t : ticks ≡ ticksOf e) where
+  module _ {rst req : Bool} (p : rst ≡ rstSeen s) (q : req ≡ reqSeen s) {ticks : ℕ} (t : ticks ≡ ticksOf e) where
     edges-are : edgesFrom rst req (stateAt n) ticks ≡ edgesOf s e
     unfolding edgesOf
     edges-are = (λ x. edgesFrom (p x) (q x) (state-a x) (t x)) ∙ sym (edges-from s (afterA s e) (ticksOf e))
@@ -46,7 +46,7 @@ module _ (s : State) (i : InRange s) (j : InBytes s) (e : Event) (f : EventFits 
     pub beyond-is : {b : Bool} → b ≡ (edgesFrom rst req (stateAt n) ticks) .beyond → b ≡ (edgesOf s e) .beyond
     beyond-is k = k ∙ ap (λ (g : Edges). g .beyond) edges-are
 
-    module _ {was : Bool} (r : was ≡ mismatched (s .registers) (s .lines)) {b : List ℕ} (l : b ≡ imageOf (appliedFrom (edgesFrom rst req (stateAt n) ticks) was (stateAt n))) where
+    module _ {was : Bool} (r : was ≡ mismatched s) {b : List ℕ} (l : b ≡ imageOf (appliedFrom (edgesFrom rst req (stateAt n) ticks) was (stateAt n))) where
       pub is-b : b ≡ imageOf (afterB s e)
       unfolding afterB
       is-b =

@@ -25,7 +25,7 @@ right-false true = refl
 right-false false = refl
 
 module _ (s : State) (h : path (s .registers) ≡ true) where
-  unready : pioReady (s .registers) (s .lines) (s .transfer) ≡ false
+  unready : pioReady s ≡ false
   unfolding path normal pioReady automatic
   unready =
       let r = s .registers in

@@ -6,14 +6,14 @@ use Rattle.rules.specs.StepD.{statusRaised, statusD}
 use Rattle.rules.specs.declared.registers.Simode0.{Simode0}
 use Rattle.rules.specs.declared.registers.Simode1.{Simode1}
 use Rattle.rules.specs.declared.chip.Status.{Status}
-use Rattle.image.specs.Image.{withStatus, withLatches}
+use Rattle.rules.specs.Changed.{withStatus, withLatches}
 use Rattle.interrupts.specs.Latching.{latchesFrom}
 
 abbrev pub raisedBy : State → State
-raisedBy s = withStatus (statusRaised (s .registers) (s .lines) (s .transfer) (s .status)) s
+raisedBy s = withStatus (statusRaised s) s
 
 abbrev pub fallenBy : ℕ → State → State
-fallenBy acks s = withStatus (statusD acks (ackSeen (s .registers) (s .lines) (s .transfer)) (s .status)) s
+fallenBy acks s = withStatus (statusD acks (ackSeen s) (s .status)) s
 
 abbrev pub latchedBy : Simode0 → Simode1 → Status → Status → State → State
 latchedBy b0 b1 status raised s =

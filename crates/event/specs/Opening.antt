@@ -50,9 +50,9 @@ pub record Ready (m : List ℕ) (x : Seen) (before0 before1 t v : ℕ) : Type 0 
   pub range : InRange state
   pub bytes : InBytes state
   pub made : m ≡ imageOf (afterA state event)
-  pub rst : rstOf x ≡ rstSeen (state .registers) (state .lines)
-  pub req : reqOf x ≡ reqSeen (state .registers) (state .lines)
-  pub mismatched : mismatchedOf x ≡ mismatched (state .registers) (state .lines)
+  pub rst : rstOf x ≡ rstSeen state
+  pub req : reqOf x ≡ reqSeen state
+  pub mismatched : mismatchedOf x ≡ mismatched state
   pub simode0 : simode0Of before0 ≡ state .registers .simode0
   pub simode1 : simode1Of before1 ≡ state .registers .simode1
   pub ticks : t ≡ ticksOf event

@@ -82,10 +82,10 @@ module _ (m : List ℕ) where
   abbrev pub phase : Bool
   phase = eqb (field (getD m 16 0) 5 3) (field (getD m 3 0) 5 3)
 
-  pub matched-by : matched (registersAt m) (linesAt m) ≡ (phase && connected (registersAt m) (linesAt m))
+  pub matched-by : matched (stateAt m) ≡ (phase && connected (stateAt m))
   unfolding matched
-  matched-by = rw (last-first (connected (registersAt m) (linesAt m)), same-phase (getD m 16 0) (getD m 3 0))
+  matched-by = rw (last-first (connected (stateAt m)), same-phase (getD m 16 0) (getD m 3 0))
 
-  pub mismatched-by : mismatched (registersAt m) (linesAt m) ≡ (not phase && connected (registersAt m) (linesAt m))
+  pub mismatched-by : mismatched (stateAt m) ≡ (not phase && connected (stateAt m))
   unfolding mismatched
   mismatched-by = rw (matched-by, not-both)

@@ -9,7 +9,6 @@ use Rattle.rules.specs.Numbers.{bit, field, one, byteOf, padded}
 use Rattle.rules.specs.Counter.{counterByte}
 use Rattle.rules.specs.Registers.{scsiseqOf, scsiseqByte, sxfrctl0Of, sxfrctl0Byte, sxfrctl1Of, sxfrctl1Byte, scsisigOf, scsirateOf, scsiidOf, simode0Of, simode0Byte, simode1Of, simode1Byte, dmacntrl0Of, dmacntrl0Byte, dmacntrl1Of, dmacntrl1Byte}
 use Rattle.rules.specs.State.{State, Transfer}
-pub use Rattle.rules.specs.Changed.{withLines, withRegisters, withTransfer, withStatus, withLatches, withStack, withQuiet, withIdentity}
 use Rattle.rules.specs.Ranges.{InRange, InBytes}
 use Rattle.rules.specs.declared.registers.Scsisig.{Scsisig}
 use Rattle.rules.specs.declared.registers.Scsirate.{Scsirate}

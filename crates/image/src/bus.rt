@@ -4,19 +4,19 @@ ghost use Rattle.rules.specs.Seen.{rstSeen, selSeen, bsySeen, manual, automatic
 ghost use Rattle.image.specs.Image.{registersAt, linesAt, transferAt};
 
 pub fn rst_seen(m: &[u8; 196]) -> bool
-    ensures { λ b. ⌜ b ≡ rstSeen (registersAt (now (m .entry))) (linesAt (now (m .entry))) ⌝ }
+    ensures { λ b. ⌜ b ≡ rstSeen (stateAt (now (m .entry))) ⌝ }
 {
     ((m[15] >> 0) % 2 == 1) | ((m[0] >> 0) % 2 == 1)
 }
 
 pub fn bsy_seen(m: &[u8; 196]) -> bool
-    ensures { λ b. ⌜ b ≡ bsySeen (registersAt (now (m .entry))) (linesAt (now (m .entry))) ⌝ }
+    ensures { λ b. ⌜ b ≡ bsySeen (stateAt (now (m .entry))) ⌝ }
 {
     ((m[16] >> 2) % 2 == 1) | ((m[3] >> 2) % 2 == 1)
 }
 
 pub fn sel_seen(m: &[u8; 196]) -> bool
-    ensures { λ b. ⌜ b ≡ selSeen (registersAt (now (m .entry))) (linesAt (now (m .entry))) ⌝ }
+    ensures { λ b. ⌜ b ≡ selSeen (stateAt (now (m .entry))) ⌝ }
 {
     ((m[16] >> 3) % 2 == 1) | ((m[3] >> 3) % 2 == 1)
 }
@@ -42,14 +42,14 @@ pub fn normal(m: &[u8; 196]) -> bool
 
 // "Connected: BSY seen, SEL and RST not."
 pub fn connected(m: &[u8; 196]) -> bool
-    ensures { λ b. ⌜ b ≡ connected (registersAt (now (m .entry))) (linesAt (now (m .entry))) ⌝ }
+    ensures { λ b. ⌜ b ≡ connected (stateAt (now (m .entry))) ⌝ }
 {
     bsy_seen(m) & !sel_seen(m) & !rst_seen(m)
 }
 
 // "Matched: connected and CD, IO, MSG equal 343h bits 7-5."
 pub fn matched(m: &[u8; 196]) -> bool
-    ensures { λ b. ⌜ b ≡ matched (registersAt (now (m .entry))) (linesAt (now (m .entry))) ⌝ }
+    ensures { λ b. ⌜ b ≡ matched (stateAt (now (m .entry))) ⌝ }
 {
     if (m[16] >> 5) % 8 == (m[3] >> 5) % 8 {
         connected(m)
@@ -60,7 +60,7 @@ pub fn matched(m: &[u8; 196]) -> bool
 
 // Connected and not matched.
 pub fn mismatched(m: &[u8; 196]) -> bool
-    ensures { λ b. ⌜ b ≡ mismatched (registersAt (now (m .entry))) (linesAt (now (m .entry))) ⌝ }
+    ensures { λ b. ⌜ b ≡ mismatched (stateAt (now (m .entry))) ⌝ }
 {
     if (m[16] >> 5) % 8 == (m[3] >> 5) % 8 {
         false
@@ -82,7 +82,7 @@ pub fn path(m: &[u8; 196]) -> bool
 
 // "Synchronous: SOFS not 0, CD and MSG not seen"
 pub fn synchronous(m: &[u8; 196]) -> bool
-    ensures { λ b. ⌜ b ≡ synchronous (registersAt (now (m .entry))) (linesAt (now (m .entry))) ⌝ }
+    ensures { λ b. ⌜ b ≡ synchronous (stateAt (now (m .entry))) ⌝ }
 {
     !((m[4] >> 0) % 16 == 0) & !((m[16] >> 7) % 2 == 1) & !((m[16] >> 5) % 2 == 1)
 }
@@ -97,13 +97,13 @@ pub fn limit(m: &[u8; 196]) -> u8
 
 // "ACKO drives ACK in Manual mode only, uncounted."
 pub fn ack_driven(m: &[u8; 196]) -> bool
-    ensures { λ b. ⌜ b ≡ ackDriven (registersAt (now (m .entry))) (transferAt (now (m .entry))) ⌝ }
+    ensures { λ b. ⌜ b ≡ ackDriven (stateAt (now (m .entry))) ⌝ }
 {
     (m[18] == 1) | (manual(m) & ((m[3] >> 0) % 2 == 1))
 }
 
 pub fn ack_seen(m: &[u8; 196]) -> bool
-    ensures { λ b. ⌜ b ≡ ackSeen (registersAt (now (m .entry))) (linesAt (now (m .entry))) (transferAt (now (m .entry))) ⌝ }
+    ensures { λ b. ⌜ b ≡ ackSeen (stateAt (now (m .entry))) ⌝ }
 {
     ((m[16] >> 0) % 2 == 1) | ack_driven(m)
 }
@@ -111,7 +111,7 @@ pub fn ack_seen(m: &[u8; 196]) -> bool
 // "Data is driven when connected and IO not seen: the latch in Manual and Automatic, the byte last sent in Normal while
 // automatic ACK is on."
 pub fn driving(m: &[u8; 196]) -> bool
-    ensures { λ b. ⌜ b ≡ driving (registersAt (now (m .entry))) (linesAt (now (m .entry))) (transferAt (now (m .entry))) ⌝ }
+    ensures { λ b. ⌜ b ≡ driving (stateAt (now (m .entry))) ⌝ }
 {
     if manual(m) | automatic(m) | (normal(m) & (m[18] == 1)) {
         if (m[16] >> 6) % 2 == 1 {
@@ -126,7 +126,7 @@ pub fn driving(m: &[u8; 196]) -> bool
 
 // "Undriven data and parity are 0."
 pub fn data_driven(m: &[u8; 196]) -> u8
-    ensures { λ b. ⌜ b ≡ dataDriven (registersAt (now (m .entry))) (linesAt (now (m .entry))) (transferAt (now (m .entry))) ⌝ }
+    ensures { λ b. ⌜ b ≡ dataDriven (stateAt (now (m .entry))) ⌝ }
 {
     if driving(m) {
         if normal(m) { m[19] } else { m[6] }
@@ -136,7 +136,7 @@ pub fn data_driven(m: &[u8; 196]) -> u8
 }
 
 pub fn data_seen(m: &[u8; 196]) -> u8
-    ensures { λ b. ⌜ b ≡ dataSeen (registersAt (now (m .entry))) (linesAt (now (m .entry))) (transferAt (now (m .entry))) ⌝ }
+    ensures { λ b. ⌜ b ≡ dataSeen (stateAt (now (m .entry))) ⌝ }
 {
     m[14] | data_driven(m)
 }

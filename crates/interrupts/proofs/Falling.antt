@@ -40,6 +40,6 @@ pub falls : (acks : ℕ) (seen : Bool) (t : Status) → not (ltb 0 acks) && not 
 unfolding statusD
 falls acks seen t h = rw h
 
-pub ack-seen-at : (m : List ℕ) → ackSeen (registersAt m) (linesAt m) (transferAt m) ≡ ackSeen (stateAt m .registers) (stateAt m .lines) (stateAt m .transfer)
+pub ack-seen-at : (m : List ℕ) → ackSeen (stateAt m) ≡ ackSeen (stateAt m)
 unfolding stateAt
 ack-seen-at m = refl

@@ -7,7 +7,8 @@ use Rattle.rules.specs.Numbers.{bit}
 use Rattle.rules.specs.State.{State}
 use Rattle.rules.specs.declared.chip.Status.{Status}
 use Rattle.rules.specs.declared.chip.Latches.{Latches}
-use Rattle.image.specs.Image.{IsImage, imageOf, stateAt, statusByte, statusOf, latchesByte, latchesOf, withStatus, withLatches}
+use Rattle.rules.specs.Changed.{withStatus, withLatches}
+use Rattle.image.specs.Image.{IsImage, imageOf, stateAt, statusByte, statusOf, latchesByte, latchesOf}
 
 status-stored : (s : State) (t : Status) → set (imageOf s) 12 (statusByte t) ≡ imageOf (withStatus t s)
 unfolding imageOf

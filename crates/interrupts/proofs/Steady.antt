@@ -14,7 +14,8 @@ use Rattle.rules.specs.declared.registers.Simode0.{Simode0}
 use Rattle.rules.specs.declared.registers.Simode1.{Simode1}
 use Rattle.rules.specs.declared.chip.Status.{Status}
 use Rattle.rules.specs.declared.chip.Latches.{Latches}
-use Rattle.image.specs.Image.{imageOf, stateAt, statusOf, latchesOf, withLatches}
+use Rattle.rules.specs.Changed.{withLatches}
+use Rattle.image.specs.Image.{imageOf, stateAt, statusOf, latchesOf}
 use Rattle.interrupts.proofs.Placed.{latches-as}
 use Rattle.interrupts.specs.Latching.{latchesFrom, anyEnable}
 

@@ -5,7 +5,8 @@ ghost use Rattle.rules.specs.Seen.{ackSeen};
 ghost use Rattle.rules.specs.StepA.{statusA};
 ghost use Rattle.rules.specs.StepD.{fifoConflict, pioReady, statusRaised, statusD};
 ghost use Rattle.rules.specs.declared.records.Event.the-variants.{Write, WordRead};
-ghost use Rattle.image.specs.Image.{IsImage, imageOf, stateAt, registersAt, linesAt, transferAt, withStatus};
+ghost use Rattle.rules.specs.Changed.{withStatus};
+ghost use Rattle.image.specs.Image.{IsImage, imageOf, stateAt, registersAt, linesAt, transferAt};
 use image::bus::ack_seen;
 use image::bus::automatic;
 use image::bus::matched;
@@ -79,7 +80,7 @@ pub fn status_written_in(m: &mut [u8; 196], offset: u8, value: u8)
 // "Each ACK ... clears REQINIT." "REQINIT also falls when ACK is seen."
 pub fn fallen_in(m: &mut [u8; 196], acks: u8)
     requires { ⌜ IsImage (now m) ⌝ }
-    ensures { λ _. ⌜ now (m .exit) ≡ imageOf (withStatus (statusD acks (ackSeen ((stateAt (now (m .entry))) .registers) ((stateAt (now (m .entry))) .lines) ((stateAt (now (m .entry))) .transfer)) ((stateAt (now (m .entry))) .status)) (stateAt (now (m .entry)))) ⌝ }
+    ensures { λ _. ⌜ now (m .exit) ≡ imageOf (withStatus (statusD acks (ackSeen (stateAt (now (m .entry)))) ((stateAt (now (m .entry))) .status)) (stateAt (now (m .entry)))) ⌝ }
 {
     if !((m[12] >> 2) % 2 == 1) {
         return;
@@ -110,7 +111,7 @@ fn fifo_conflict(m: &[u8; 196]) -> bool
 
 // "Automatic mode, matched, REQ seen, automatic ACK off sets SPIORDY."
 fn pio_ready(m: &[u8; 196]) -> bool
-    ensures { λ b. ⌜ b ≡ pioReady (registersAt (now (m .entry))) (linesAt (now (m .entry))) (transferAt (now (m .entry))) ⌝ }
+    ensures { λ b. ⌜ b ≡ pioReady (stateAt (now (m .entry))) ⌝ }
 {
     if automatic(m) {
         matched(m) & ((m[16] >> 1) % 2 == 1) & !(m[18] == 1)
@@ -122,7 +123,7 @@ fn pio_ready(m: &[u8; 196]) -> bool
 // What each status rose to in the event: SPIORDY in Automatic mode, or FWERR in Normal mode.
 pub fn raised_in(m: &mut [u8; 196])
     requires { ⌜ IsImage (now m) ⌝ }
-    ensures { λ _. ⌜ now (m .exit) ≡ imageOf (withStatus (statusRaised ((stateAt (now (m .entry))) .registers) ((stateAt (now (m .entry))) .lines) ((stateAt (now (m .entry))) .transfer) ((stateAt (now (m .entry))) .status)) (stateAt (now (m .entry)))) ⌝ }
+    ensures { λ _. ⌜ now (m .exit) ≡ imageOf (withStatus (statusRaised (stateAt (now (m .entry)))) (stateAt (now (m .entry)))) ⌝ }
 {
     if pio_ready(m) {
         let mut t = status_of(m[12]);

@@ -166,7 +166,7 @@ module _ (m : List ℕ) (i : IsImage m) where
   unfolding stateAt
   at-brstcntrl = refl
 
-  pub at-bus : dataSeen (registersAt m) (linesAt m) (transferAt m) ≡ scsibus (stateAt m)
+  pub at-bus : dataSeen (stateAt m) ≡ scsibus (stateAt m)
   unfolding scsibus stateAt
   at-bus = refl
 

@@ -130,23 +130,23 @@ module _ (c : Conditions) (t : Transfer) where
   kept-settles shut off = settle-keeps (Kept (c .outbound) t) c (kept-move shut) (λ s h k. absurd (never (sym off ∙ left-true (c .enabled) _ h)))
 
 -- a state in which RST is seen is not matched; and it is seen throughout B
-rst-unmatched : (r : Registers) (l : Lines) → rstSeen r l ≡ true → matched r l ≡ false
+rst-unmatched : (s : State) → rstSeen s ≡ true → matched s ≡ false
 unfolding matched connected
-rst-unmatched r l h = rw (h, and-false)
+rst-unmatched s h = rw (h, and-false)
 
-rst-by : (n : State) (a : Apart) → apartOf n ≡ a → rstSeen (n .registers) (n .lines) ≡ (a .lines .rst || a .scsirsto)
+rst-by : (n : State) (a : Apart) → apartOf n ≡ a → rstSeen n ≡ (a .lines .rst || a .scsirsto)
 unfolding rstSeen
 rst-by n a h = ap (λ (x : Apart). x .lines .rst || x .scsirsto) h
 
 module _ (s : State) (e : Event) (rises : rstRises s (afterA s e) ≡ true) where
-  rst-after-a : rstSeen ((afterA s e) .registers) ((afterA s e) .lines) ≡ true
+  rst-after-a : rstSeen (afterA s e) ≡ true
   unfolding rstRises
-  rst-after-a = left-true (rstSeen ((afterA s e) .registers) ((afterA s e) .lines)) _ rises
+  rst-after-a = left-true (rstSeen (afterA s e)) _ rises
 
-  rst-at-req : rstSeen ((atReq s e) .registers) ((atReq s e) .lines) ≡ true
+  rst-at-req : rstSeen (atReq s e) ≡ true
   rst-at-req = rst-by (atReq s e) _ (req-leaves s e) ∙ sym (rst-by (afterA s e) _ refl) ∙ rst-after-a
 
-  rst-after-b : rstSeen ((afterB s e) .registers) ((afterB s e) .lines) ≡ true
+  rst-after-b : rstSeen (afterB s e) ≡ true
   rst-after-b = rst-by (afterB s e) _ (b-leaves s e) ∙ sym (rst-by (afterA s e) _ refl) ∙ rst-after-a
 
   -- no REQ rises with RST seen, so no byte is stored
@@ -156,7 +156,7 @@ module _ (s : State) (e : Event) (rises : rstRises s (afterA s e) ≡ true) wher
 
   -- 343h is 0 after the reset, and IOEXP with it
   reset-at-req : (atReq s e) .registers .scsisig .ioexp ≡ false
-  unfolding atReq afterRstRises ackReleased busReset rstRises
+  unfolding atReq afterRstRises ackReleased busReset rstRises rstSeen
   reset-at-req = rw (still-rises ∙ rises)
     where
       still-rises : rstRises s (afterReqFalls s (afterA s e)) ≡ rstRises s (afterA s e)
@@ -185,7 +185,7 @@ module _ (s : State) (e : Event) (rises : rstRises s (afterA s e) ≡ true) wher
 
   reset-idle : (conditions (afterB s e)) .enabled ≡ false
   unfolding conditions
-  reset-idle = rw (rst-unmatched ((afterB s e) .registers) ((afterB s e) .lines) rst-after-b, and-false)
+  reset-idle = rw (rst-unmatched (afterB s e) rst-after-b, and-false)
 
   reset-shut : (conditions (afterB s e)) .outbound ≡ false → (conditions (afterB s e)) .path ≡ false
   unfolding conditions path

@@ -288,19 +288,19 @@ bytes-after-a s e f i =
     }
 
 -- the data driven and the data seen are bytes
-pub data-driven-fits : (r : Registers) (l : Lines) (t : Transfer) → RegistersBytes r → TransferBytes t → dataDriven r l t < 256
+pub data-driven-fits : (s : State) → RegistersBytes (s .registers) → TransferBytes (s .transfer) → dataDriven s < 256
 unfolding dataDriven
-data-driven-fits r l t i j = go (driving r l t) (normal r)
+data-driven-fits s i j = go (driving s) (normal (s .registers))
   where
-    go : (d n : Bool) → cond d (cond n (t .last) (r .scsidat)) 0 < 256
+    go : (d n : Bool) → cond d (cond n (s .transfer .last) (s .registers .scsidat)) 0 < 256
     go true true = j .last
     go true false = i .scsidat
     go false n = omega arith
 
 -- the data seen, driven by others or by the chip, is a byte
-pub data-seen-fits : (r : Registers) (l : Lines) (t : Transfer) → l .byte < 256 → RegistersBytes r → TransferBytes t → dataSeen r l t < 256
+pub data-seen-fits : (s : State) → s .lines .byte < 256 → RegistersBytes (s .registers) → TransferBytes (s .transfer) → dataSeen s < 256
 unfolding dataSeen
-data-seen-fits r l t h i j = or-lt 8 (l .byte) (dataDriven r l t) h (data-driven-fits r l t i j)
+data-seen-fits s h i j = or-lt 8 (s .lines .byte) (dataDriven s) h (data-driven-fits s i j)
 
 -- a REQ that is counted is below the limit, and a byte that is stored has room
 counted-room : (g a b : Bool) → (g && not (a || b)) ≡ true → a ≡ false
@@ -321,10 +321,10 @@ module _ (now : State) where
   offset-room e =
       omega (arith, leb-false (limit (now .registers)) (now .transfer .offset) (counted-room (synchronousReq now) (leb (limit (now .registers)) (now .transfer .offset)) _ e))
 
-  scsi-room : (countedReq now && ioSeen (now .registers) (now .lines)) ≡ true → length (now .transfer .scsi) < 8
+  scsi-room : (countedReq now && ioSeen now) ≡ true → length (now .transfer .scsi) < 8
   unfolding countedReq beyondLimit
   scsi-room e =
-      leb-false 8 (length (now .transfer .scsi)) (stored-room (synchronousReq now) (leb (limit (now .registers)) (now .transfer .offset)) (ioSeen (now .registers) (now .lines)) (leb 8 (length (now .transfer .scsi))) e)
+      leb-false 8 (length (now .transfer .scsi)) (stored-room (synchronousReq now) (leb (limit (now .registers)) (now .transfer .offset)) (ioSeen now) (leb 8 (length (now .transfer .scsi))) e)
 
 -- B, by its changes: the registers, and the data path
 registers-with : (q : Scsiseq) (x : Sxfrctl0) (g : Scsisig) (r : Registers) → RegistersFit r → RegistersFit (registersWith q x g r)
@@ -333,8 +333,8 @@ registers-with q x g r i = record { sxfr = i .sxfr; sofs = i .sofs; oid = i .oid
 registers-bytes-with : (q : Scsiseq) (x : Sxfrctl0) (g : Scsisig) (r : Registers) → RegistersBytes r → RegistersBytes (registersWith q x g r)
 registers-bytes-with q x g r i = record { scsidat = i .scsidat; brstcntrl = i .brstcntrl }
 
-offset-cleared : (t : Transfer) → TransferFits t → TransferFits (offsetCleared t)
-offset-cleared t i = record { host = i .host; scsi = i .scsi; counter = i .counter; offset = omega arith }
+offset-cleared : (s : State) → TransferFits (s .transfer) → TransferFits ((offsetCleared s) .transfer)
+offset-cleared s i = record { host = i .host; scsi = i .scsi; counter = i .counter; offset = omega arith }
 
 module _ (now : State) where
   transfer-risen : TransferFits (now .transfer) → TransferFits ((reqRisen now) .transfer)
@@ -343,7 +343,7 @@ module _ (now : State) where
       record {
         host = i .host;
         scsi =
-            cond-case (λ (l : List ℕ). length (now .transfer .scsi ++ l) ≤ 8) (countedReq now && ioSeen (now .registers) (now .lines)) _ _
+            cond-case (λ (l : List ℕ). length (now .transfer .scsi ++ l) ≤ 8) (countedReq now && ioSeen now) _ _
             (λ e. simp length-append (omega (arith, scsi-room now e))) (λ e. simp length-append (omega (arith, i .scsi)));
         counter = i .counter;
         offset = cond-case (λ n. n ≤ 8) (countedReq now) _ _ (λ e. omega (arith, offset-room now e)) (λ e. i .offset);
@@ -352,14 +352,14 @@ module _ (now : State) where
   bytes-risen : InBytes now → Bytes ((reqRisen now) .transfer .scsi)
   unfolding reqRisen storedByte
   bytes-risen i =
-      let seen = data-seen-fits (now .registers) (now .lines) (now .transfer) (i .lines) (i .registers) (i .transfer) in
+      let seen = data-seen-fits now (i .lines) (i .registers) (i .transfer) in
       bytes-append (now .transfer .scsi) (storedByte now) (i .transfer .scsi)
-      (cond-case Bytes (countedReq now && ioSeen (now .registers) (now .lines)) _ _ (λ e. (seen, tt)) (λ e. tt))
+      (cond-case Bytes (countedReq now && ioSeen now) _ _ (λ e. (seen, tt)) (λ e. tt))
 
   quiet-fits : (ticks : ℕ) → quietAfter ticks now ≤ 8
   unfolding quietAfter
   quiet-fits ticks =
-      cond-case (λ n. n ≤ 8) (bsySeen (now .registers) (now .lines) || selSeen (now .registers) (now .lines)) _ _
+      cond-case (λ n. n ≤ 8) (bsySeen now || selSeen now) _ _
       (λ h. omega arith) (λ h. omega arith)
 
 range-keeps : Keeps InRange
@@ -379,7 +379,7 @@ range-keeps =
           λ n i.
           record {
             registers = registers-with _ _ _ (n .registers) (i .registers);
-            transfer = offset-cleared (n .transfer) (i .transfer);
+            transfer = offset-cleared n (i .transfer);
             stack = i .stack;
             quiet = i .quiet;
             identity = i .identity;
@@ -400,7 +400,7 @@ range-keeps =
           λ n i.
           record {
             registers = registers-with _ _ _ (n .registers) (i .registers);
-            transfer = offset-cleared (n .transfer) (i .transfer);
+            transfer = offset-cleared n (i .transfer);
             stack = i .stack;
             quiet = i .quiet;
             identity = i .identity;
@@ -514,7 +514,7 @@ bytes-settle c byte = settle-keeps SettlingBytes c (bytes-move c byte) (bytes-ha
 -- the byte on the bus, as settling sees it
 pub conditions-byte : (s : State) → InBytes s → (conditions s) .byte < 256
 unfolding conditions
-conditions-byte s i = data-seen-fits (s .registers) (s .lines) (s .transfer) (i .lines) (i .registers) (i .transfer)
+conditions-byte s i = data-seen-fits s (i .lines) (i .registers) (i .transfer)
 
 -- the data path after C is in range
 pub settled-fits : (s : State) (e : Event) → InRange (afterB s e) → TransferFits ((settledC s e) .transfer)
@@ -564,12 +564,10 @@ read-fits s SXFRCTL1 i j =
     let q = s .registers .sxfrctl1 in
     byte-fits (q .bitbucket) (q .swrapen) (q .enspchk) (q .stimesel1) (q .stimesel0) (q .enstimer) (q .bytealign) false
 read-fits s SCSISIGI i j =
-    let r = s .registers in
-    let l = s .lines in
-    byte-fits (l .cd) (l .io) (l .msg) (atnSeen r l) (selSeen r l) (bsySeen r l) (l .req) (ackSeen r l (s .transfer))
+    byte-fits (s .lines .cd) (s .lines .io) (s .lines .msg) (atnSeen s) (selSeen s) (bsySeen s) (s .lines .req) (ackSeen s)
 read-fits s SELID i j = omega arith
-read-fits s SCSIDAT i j = data-seen-fits (s .registers) (s .lines) (s .transfer) (j .lines) (j .registers) (j .transfer)
-read-fits s SCSIBUS i j = data-seen-fits (s .registers) (s .lines) (s .transfer) (j .lines) (j .registers) (j .transfer)
+read-fits s SCSIDAT i j = data-seen-fits s (j .lines) (j .registers) (j .transfer)
+read-fits s SCSIBUS i j = data-seen-fits s (j .lines) (j .registers) (j .transfer)
 read-fits s STCNT0 i j = omega arith
 read-fits s STCNT1 i j = omega arith
 read-fits s STCNT2 i j = omega arith
@@ -821,7 +819,7 @@ control-fits : (s : State) → controlDriven s < 256
 unfolding controlDriven
 control-fits s =
     let g = s .registers .scsisig in
-    byte-fits false false false (g .atno) (g .selo) (g .bsyo) false (ackDriven (s .registers) (s .transfer))
+    byte-fits false false false (g .atno) (g .selo) (g .bsyo) false (ackDriven s)
 
 sent-size : (l : List ℕ) → length l ≤ 8 → length (padded 8 l) ≡ 8
 unfolding padded
@@ -840,7 +838,7 @@ stepped-answer-fits r f g =
       bytes = (
         omega (arith, eight-codes (r .code), one-fits (irq s)),
         (
-          omega (arith, one-fits (driving (s .registers) (s .lines) (s .transfer)), one-fits (s .registers .scsiseq .scsirsto), one-fits (parityDriven (s .registers) (s .lines) (s .transfer))),
+          omega (arith, one-fits (driving s), one-fits (s .registers .scsiseq .scsirsto), one-fits (parityDriven s)),
           (
             omega arith,
             (
@@ -848,7 +846,7 @@ stepped-answer-fits r f g =
               (
                 control-fits s,
                 (
-                  data-driven-fits (s .registers) (s .lines) (s .transfer) (g .state .registers) (g .state .transfer),
+                  data-driven-fits s (g .state .registers) (g .state .transfer),
                   (
                     omega arith,
                     (

@@ -8,8 +8,8 @@ use lib.Dec.{ltb, leb}
 use lib.ListN.{length}
 use borrow.Author.Tests.{le-ltb}
 use Rattle.rules.specs.State.{State, powerReset}
-use Rattle.rules.specs.Changed.{withQuiet}
-use Rattle.rules.specs.Seen.{ioSeen, reqSeen, rstSeen, bsySeen, selSeen, ackSeen, connected, mismatched, parityEven}
+use Rattle.rules.specs.Changed.{withQuiet, withTransfer}
+use Rattle.rules.specs.Seen.{ackDriven, ackSeen, bsySeen, connected, ioSeen, matched, mismatched, parityEven, reqSeen, rstSeen, selSeen, synchronous}
 use Rattle.rules.specs.Records.{wellFormed, fieldsOf, decode}
 use Rattle.rules.specs.Events.{writes, reads, valueOf, ticksOf, linesAfter, offered, asked, portWrite, portRead}
 use Rattle.rules.specs.Interrupts.{latched}
@@ -43,12 +43,12 @@ pub record AtRest (s : State) : Type 0 where
   pub resting : Resting (conditions s) (s .transfer)
   -- FWERR and SPIORDY are set where their causes hold
   pub fwerr : fifoConflict (s .registers) ≡ true → s .status .fwerr ≡ true
-  pub spiordy : pioReady (s .registers) (s .lines) (s .transfer) ≡ true → s .status .spiordy ≡ true
+  pub spiordy : pioReady s ≡ true → s .status .spiordy ≡ true
   -- REQINIT is clear where ACK is seen, SCSIPERR where ENSPCHK is 0
-  pub reqinit : ackSeen (s .registers) (s .lines) (s .transfer) ≡ true → s .status .reqinit ≡ false
+  pub reqinit : ackSeen s ≡ true → s .status .reqinit ≡ false
   pub scsiperr : s .registers .sxfrctl1 .enspchk ≡ false → s .status .scsiperr ≡ false
   -- no quiet ticks stand where BSY or SEL is seen
-  pub quiet : (bsySeen (s .registers) (s .lines) || selSeen (s .registers) (s .lines)) ≡ true → s .quiet ≡ 0
+  pub quiet : (bsySeen s || selSeen s) ≡ true → s .quiet ≡ 0
 
 -- a status that its cause sets, or that another holds clear, stays as it is
 set-already : (cause status : Bool) → (cause ≡ true → status ≡ true) → (cause || status) ≡ status
@@ -100,11 +100,11 @@ after-a-still s r =
 -- B of no ticks: nothing rises or falls
 req-fall-still : (s : State) → reqFalls s s ≡ false
 unfolding reqFalls
-req-fall-still s = and-not-self (reqSeen (s .registers) (s .lines))
+req-fall-still s = and-not-self (reqSeen s)
 
 rst-still : (s : State) → rstRises s s ≡ false
 unfolding rstRises
-rst-still s = and-not-self (rstSeen (s .registers) (s .lines))
+rst-still s = and-not-self (rstSeen s)
 
 req-rise-still : (s : State) → reqRises s s ≡ false
 unfolding reqRises
@@ -112,9 +112,9 @@ req-rise-still s = rw and-not-self
 
 quiet-still : (s : State) → AtRest s → s .quiet ≤ 8 → quietAfter 0 s ≡ s .quiet
 unfolding quietAfter
-quiet-still s r h = go (bsySeen (s .registers) (s .lines) || selSeen (s .registers) (s .lines)) refl
+quiet-still s r h = go (bsySeen s || selSeen s) refl
   where
-    go : (b : Bool) → (bsySeen (s .registers) (s .lines) || selSeen (s .registers) (s .lines)) ≡ b → cond b 0 (min 8 (s .quiet + 0)) ≡ s .quiet
+    go : (b : Bool) → (bsySeen s || selSeen s) ≡ b → cond b 0 (min 8 (s .quiet + 0)) ≡ s .quiet
     go true e = sym (r .quiet e)
     go false e = omega arith
 
@@ -124,7 +124,7 @@ free-still s r h = rw (quiet-still s r h) (and-not-self (leb 8 (s .quiet)))
 
 phase-still : (s : State) → phaseChanges s s ≡ false
 unfolding phaseChanges
-phase-still s = and-not-self (mismatched (s .registers) (s .lines))
+phase-still s = and-not-self (mismatched s)
 
 after-b-still : (s : State) → AtRest s → s .quiet ≤ 8 → afterB s (Ticks 0) ≡ s
 unfolding afterB ticksOf inOrder afterReqFalls afterRstRises afterReqRises afterQuietTicks afterPhaseChanges
@@ -139,12 +139,12 @@ settled-still s r h =
     ap (λ (b : State). settle (conditions b) turns (started b)) (after-b-still s r h) ∙ settle-rests (conditions s) turns (started s) (r .resting)
 
 -- D of no ticks
-raised-still : (s : State) → AtRest s → statusRaised (s .registers) (s .lines) (s .transfer) (s .status) ≡ s .status
+raised-still : (s : State) → AtRest s → statusRaised s ≡ s .status
 unfolding statusRaised
 raised-still s r =
     λ i.
     record {
-      spiordy = set-already (pioReady (s .registers) (s .lines) (s .transfer)) (s .status .spiordy) (r .spiordy) i;
+      spiordy = set-already (pioReady s) (s .status .spiordy) (r .spiordy) i;
       scsirsti = s .status .scsirsti;
       busfree = s .status .busfree;
       scsiperr = s .status .scsiperr;
@@ -202,12 +202,12 @@ finished-still s r =
     }
   where
     seen : Bool
-    seen = ackSeen (s .registers) (s .lines) (s .transfer)
+    seen = ackSeen s
 
-    status : statusD 0 seen (statusRaised (s .registers) (s .lines) (s .transfer) (s .status)) ≡ s .status
+    status : statusD 0 seen (statusRaised s) ≡ s .status
     status = ap (λ (t : Status). statusD 0 seen t) (raised-still s r) ∙ status-d-still seen (s .status) (r .reqinit)
 
-    latches : latchesD (s .registers) (s .registers) (s .status) (statusRaised (s .registers) (s .lines) (s .transfer) (s .status)) (s .latches) ≡ s .latches
+    latches : latchesD (s .registers) (s .registers) (s .status) (statusRaised s) (s .latches) ≡ s .latches
     latches = ap (λ (t : Status). latchesD (s .registers) (s .registers) (s .status) t (s .latches)) (raised-still s r) ∙ latches-still (s .registers) (s .status) (s .latches)
 
 after-d-still : (s : State) → AtRest s → s .quiet ≤ 8 → afterD s (Ticks 0) ≡ s
@@ -262,7 +262,7 @@ power-reset-rests =
     }
 
 settled-rests : (s : State) (e : Event) → InRange (afterB s e) → Resting (conditions (afterD s e)) ((settledC s e) .transfer)
-unfolding settledC started afterD finished conditions canMove canHandshake canSynchronous canAsynchronous
+unfolding settledC started afterD finished conditions canMove canHandshake canSynchronous canAsynchronous matched connected rstSeen selSeen bsySeen synchronous
 settled-rests s e b =
     let r = settling-rests (conditions (afterB s e)) (started (afterB s e)) (b .transfer .scsi) (b .transfer .offset) in
     record { noMove = r .noMove; noHandshake = r .noHandshake }
@@ -307,7 +307,7 @@ none true n e = refl
 none false n e = absurd (never e)
 
 abbrev busyAt : State → Bool
-busyAt n = bsySeen (n .registers) (n .lines) || selSeen (n .registers) (n .lines)
+busyAt n = bsySeen n || selSeen n
 
 busy-counts : (ticks : ℕ) (n : State) → busyAt n ≡ true → quietAfter ticks n ≡ 0
 unfolding quietAfter
@@ -327,29 +327,28 @@ abbrev Hushed : State → Type 0
 Hushed n = busyAt n ≡ true → n .quiet ≡ 0
 
 ticks-rest : (ticks : ℕ) (n : State) → Hushed (afterQuietTicks ticks n)
-unfolding afterQuietTicks busFreed
+unfolding afterQuietTicks busFreed bsySeen selSeen
 ticks-rest ticks n =
     let quiet = withQuiet (quietAfter ticks n) n in
     cond-case Hushed (busFree ticks n) (busFreed quiet) quiet (λ f h. busy-counts ticks n (freed-busy quiet h)) (λ f h. busy-counts ticks n h)
 
 quiet-rests : (s : State) (e : Event) → Hushed (afterB s e)
-unfolding afterB inOrder afterPhaseChanges phaseChanged
+unfolding afterB inOrder afterPhaseChanges phaseChanged bsySeen selSeen
 quiet-rests s e =
     let n = afterQuietTicks (ticksOf e) (afterReqRises s (afterRstRises s (afterReqFalls s (afterA s e)))) in
     cond-case Hushed (phaseChanges s n) (phaseChanged n) n (λ f. ticks-rest (ticksOf e) _) (λ f. ticks-rest (ticksOf e) _)
 
 -- EVERY EVENT THAT IS DONE LEAVES THE CHIP AT REST
 done-rests : (s : State) (e : Event) → InRange (afterB s e) → AtRest (afterD s e)
-unfolding afterD finished statusD statusRaised
+unfolding afterD finished statusD statusRaised pioReady ackSeen ackDriven matched connected rstSeen selSeen bsySeen
 done-rests s e b =
     let r = (afterB s e) .registers in
-    let l = (afterB s e) .lines in
-    let t = (settledC s e) .transfer in
+    let n = withTransfer ((settledC s e) .transfer) (afterB s e) in
     record {
       resting = settled-rests s e b;
       fwerr = sets (fifoConflict r) ((afterB s e) .status .fwerr);
-      spiordy = sets (pioReady r l t) ((afterB s e) .status .spiordy);
-      reqinit = clears-seen (not (ltb 0 ((settledC s e) .acks))) (ackSeen r l t) ((afterB s e) .status .reqinit);
+      spiordy = sets (pioReady n) ((afterB s e) .status .spiordy);
+      reqinit = clears-seen (not (ltb 0 ((settledC s e) .acks))) (ackSeen n) ((afterB s e) .status .reqinit);
       scsiperr = parity-rests s e;
       quiet = quiet-rests s e;
     }

@@ -29,7 +29,7 @@ answerSize = 16
 unfoldable pub controlDriven : State → ℕ
 controlDriven s =
     let g = s .registers .scsisig in
-    byteOf false false false (g .atno) (g .selo) (g .bsyo) false (ackDriven (s .registers) (s .transfer))
+    byteOf false false false (g .atno) (g .selo) (g .bsyo) false (ackDriven s)
 
 -- the fields of an answer
 unfoldable pub answerOf : Stepped → Answer
@@ -40,12 +40,12 @@ answerOf r =
       irq = irq s;
       acks = r .acks;
       moves = r .moves;
-      driving = driving (s .registers) (s .lines) (s .transfer);
+      driving = driving s;
       rst = s .registers .scsiseq .scsirsto;
-      parity = parityDriven (s .registers) (s .lines) (s .transfer);
+      parity = parityDriven s;
       value = r .value;
       control = controlDriven s;
-      driven = dataDriven (s .registers) (s .lines) (s .transfer);
+      driven = dataDriven s;
       offset = s .transfer .offset;
       scsi = length (s .transfer .scsi);
       host = length (s .transfer .host);

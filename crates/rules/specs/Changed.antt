@@ -1,5 +1,7 @@
--- A state with one component another: all else is as it was.
+-- A state with one part another, all else as it was: no other definition writes a state or its data path out in full.
 use Prim.Native.Nat.{ℕ}
+use mathlib.Core.Bool.{Bool}
+use mathlib.Core.List.{List}
 use Rattle.rules.specs.State.{State, Transfer}
 use Rattle.rules.specs.declared.registers.Registers.{Registers}
 use Rattle.rules.specs.declared.records.Lines.{Lines}
@@ -110,3 +112,82 @@ withIdentity x s =
       quiet = s .quiet;
       identity = x;
     }
+
+-- the state with one part of its data path another
+abbrev pub withHost : List ℕ → State → State
+withHost l s =
+    withTransfer
+    (record {
+      host = l;
+      scsi = s .transfer .scsi;
+      counter = s .transfer .counter;
+      offset = s .transfer .offset;
+      ack = s .transfer .ack;
+      last = s .transfer .last;
+    })
+    s
+
+abbrev pub withScsi : List ℕ → State → State
+withScsi l s =
+    withTransfer
+    (record {
+      host = s .transfer .host;
+      scsi = l;
+      counter = s .transfer .counter;
+      offset = s .transfer .offset;
+      ack = s .transfer .ack;
+      last = s .transfer .last;
+    })
+    s
+
+abbrev pub withCounter : ℕ → State → State
+withCounter n s =
+    withTransfer
+    (record {
+      host = s .transfer .host;
+      scsi = s .transfer .scsi;
+      counter = n;
+      offset = s .transfer .offset;
+      ack = s .transfer .ack;
+      last = s .transfer .last;
+    })
+    s
+
+abbrev pub withOffset : ℕ → State → State
+withOffset n s =
+    withTransfer
+    (record {
+      host = s .transfer .host;
+      scsi = s .transfer .scsi;
+      counter = s .transfer .counter;
+      offset = n;
+      ack = s .transfer .ack;
+      last = s .transfer .last;
+    })
+    s
+
+abbrev pub withAck : Bool → State → State
+withAck b s =
+    withTransfer
+    (record {
+      host = s .transfer .host;
+      scsi = s .transfer .scsi;
+      counter = s .transfer .counter;
+      offset = s .transfer .offset;
+      ack = b;
+      last = s .transfer .last;
+    })
+    s
+
+abbrev pub withLast : ℕ → State → State
+withLast n s =
+    withTransfer
+    (record {
+      host = s .transfer .host;
+      scsi = s .transfer .scsi;
+      counter = s .transfer .counter;
+      offset = s .transfer .offset;
+      ack = s .transfer .ack;
+      last = n;
+    })
+    s

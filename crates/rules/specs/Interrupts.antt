@@ -6,7 +6,7 @@ use Rattle.rules.specs.declared.chip.Latches.{Latches}
 
 -- "PHASEMIS is live: connected, not matched, REQINIT."
 unfoldable pub phasemis : State → Bool
-phasemis s = mismatched (s .registers) (s .lines) && s .status .reqinit
+phasemis s = mismatched s && s .status .reqinit
 
 -- what a latch looks at: the latch as A leaves it, its enable after A and at the end of the last event, its status after A, and
 -- what its status rose to in the event

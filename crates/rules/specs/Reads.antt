@@ -22,14 +22,11 @@ use Rattle.rules.specs.declared.records.Event.the-variants.{PowerReset, 
 -- 343h: document 001, "reads the actual state of the signals on the SCSI bus pins"
 unfoldable pub scsisigi : State → ℕ
 scsisigi s =
-    let r = s .registers in
-    let l = s .lines in
-    byteOf (cdSeen r l) (ioSeen r l) (msgSeen r l) (atnSeen r l) (selSeen r l) (bsySeen r l) (reqSeen r l)
-    (ackSeen r l (s .transfer))
+    byteOf (cdSeen s) (ioSeen s) (msgSeen s) (atnSeen s) (selSeen s) (bsySeen s) (reqSeen s) (ackSeen s)
 
 -- "346h and 347h read the data seen."
 unfoldable pub scsibus : State → ℕ
-scsibus s = dataSeen (s .registers) (s .lines) (s .transfer)
+scsibus s = dataSeen s
 
 -- 34Bh: SPIORDY 1; "Status bits not ruled here read 0."
 unfoldable pub sstat0 : State → ℕ

@@ -43,13 +43,13 @@ rstfifo e = writes e DMACNTRL0 && bit (valueOf e) 1
 -- "An access to 346h (a write with IO not seen, a read with IO seen) with SPIORDY"
 unfoldable pub latchAccess : State → Event → Bool
 latchAccess s e =
-    ((writes e SCSIDAT && not (ioSeen (s .registers) (s .lines))) || (reads e SCSIDAT && ioSeen (s .registers) (s .lines)))
+    ((writes e SCSIDAT && not (ioSeen s)) || (reads e SCSIDAT && ioSeen s))
     && s .status .spiordy
 
 -- "clears it and, if Automatic, matched and REQ is seen, turns automatic ACK on, adds one to the counter and clears REQINIT"
 unfoldable pub automaticAck : State → Event → Bool
 automaticAck s e =
-    latchAccess s e && automatic (s .registers) && matched (s .registers) (s .lines) && reqSeen (s .registers) (s .lines)
+    latchAccess s e && automatic (s .registers) && matched s && reqSeen s
 
 -- 343h with another ATN
 abbrev pub withAtn : Bool → Scsisig → Scsisig

@@ -6,8 +6,8 @@ use mathlib.Core.List.{List, [], _∷_, _++_}
 use lib.Dec.{eqb, leb, ltb}
 use lib.ListN.{length}
 use Rattle.rules.specs.Registers.{scsisigOf}
-use Rattle.rules.specs.State.{State, Transfer}
-use Rattle.rules.specs.Changed.{withTransfer, withStatus, withQuiet}
+use Rattle.rules.specs.State.{State}
+use Rattle.rules.specs.Changed.{withRegisters, withStatus, withQuiet, withScsi, withOffset, withAck}
 use Rattle.rules.specs.Seen.{rstSeen, selSeen, bsySeen, ioSeen, reqSeen, connected, matched, mismatched, path, synchronous, limit, dataSeen, parityEven}
 use Rattle.rules.specs.Events.{ticksOf}
 use Rattle.rules.specs.StepA.{withAtn, afterA}
@@ -19,28 +19,17 @@ use Rattle.rules.specs.declared.records.Event.{Event}
 
 -- 1. "REQ falls: automatic ACK is released."
 unfoldable pub reqFalls : State → State → Bool
-reqFalls last now = reqSeen (last .registers) (last .lines) && not (reqSeen (now .registers) (now .lines))
+reqFalls last now = reqSeen last && not (reqSeen now)
 
 unfoldable pub ackReleased : State → State
-ackReleased now =
-    let t = now .transfer in
-    withTransfer
-    (record {
-      host = t .host;
-      scsi = t .scsi;
-      counter = t .counter;
-      offset = t .offset;
-      ack = false;
-      last = t .last;
-    })
-    now
+ackReleased now = withAck false now
 
 unfoldable pub afterReqFalls : State → State → State
 afterReqFalls last now = cond (reqFalls last now) (ackReleased now) now
 
 -- 2. "RST rises: SCSIRSTI; 340h bits 7-1, 343h, offset and SCSIEN become 0; automatic ACK is released. FIFOs and counter stay."
 unfoldable pub rstRises : State → State → Bool
-rstRises last now = rstSeen (now .registers) (now .lines) && not (rstSeen (last .registers) (last .lines))
+rstRises last now = rstSeen now && not (rstSeen last)
 
 -- "340h bits 7-1 ... become 0"
 abbrev pub scsiseqCleared : Scsiseq → Scsiseq
@@ -79,34 +68,26 @@ registersWith q x g r =
     }
 
 -- "offset ... 0; automatic ACK ... released": the data path after a bus reset and after bus free
-abbrev pub offsetCleared : Transfer → Transfer
-offsetCleared t =
-    record { host = t .host; scsi = t .scsi; counter = t .counter; offset = 0; ack = false; last = t .last }
+abbrev pub offsetCleared : State → State
+offsetCleared now = withOffset 0 (withAck false now)
 
 unfoldable pub busReset : State → State
 busReset now =
     let r = now .registers in
     let k = now .status in
-    record {
-      lines = now .lines;
-      registers = registersWith (scsiseqCleared (r .scsiseq)) (scsienCleared (r .sxfrctl0)) (scsisigOf false 0) r;
-      transfer = offsetCleared (now .transfer);
-      status =
-          record {
-            spiordy = k .spiordy;
-            scsirsti = true;
-            busfree = k .busfree;
-            scsiperr = k .scsiperr;
-            phasechg = k .phasechg;
-            reqinit = k .reqinit;
-            syncerr = k .syncerr;
-            fwerr = k .fwerr;
-          };
-      latches = now .latches;
-      stack = now .stack;
-      quiet = now .quiet;
-      identity = now .identity;
-    }
+    withStatus
+    (record {
+      spiordy = k .spiordy;
+      scsirsti = true;
+      busfree = k .busfree;
+      scsiperr = k .scsiperr;
+      phasechg = k .phasechg;
+      reqinit = k .reqinit;
+      syncerr = k .syncerr;
+      fwerr = k .fwerr;
+    })
+    (withRegisters (registersWith (scsiseqCleared (r .scsiseq)) (scsienCleared (r .sxfrctl0)) (scsisigOf false 0) r)
+    (offsetCleared now))
 
 unfoldable pub afterRstRises : State → State → State
 afterRstRises last now = cond (rstRises last now) (busReset now) now
@@ -114,14 +95,14 @@ afterRstRises last now = cond (rstRises last now) (busReset now) now
 -- 3. "REQ rises and RST not seen: REQINIT."
 unfoldable pub reqRises : State → State → Bool
 reqRises last now =
-    reqSeen (now .registers) (now .lines) && not (reqSeen (last .registers) (last .lines))
-    && not (rstSeen (now .registers) (now .lines))
+    reqSeen now && not (reqSeen last)
+    && not (rstSeen now)
 
 -- "If connected, IO seen and ENSPCHK, and data with parity has an even number of ones: SCSIPERR"
 unfoldable pub parityBad : State → Bool
 parityBad now =
-    connected (now .registers) (now .lines) && ioSeen (now .registers) (now .lines) && now .registers .sxfrctl1 .enspchk
-    && parityEven (now .registers) (now .lines) (now .transfer)
+    connected now && ioSeen now && now .registers .sxfrctl1 .enspchk
+    && parityEven now
 
 -- "and with ENAUTOATNP 343h bit 4"
 unfoldable pub attention : State → Bool
@@ -130,13 +111,13 @@ attention now = parityBad now && now .registers .scsiseq .enautoatnp
 -- "If matched, path and synchronous": the REQ is one of a synchronous transfer
 unfoldable pub synchronousReq : State → Bool
 synchronousReq now =
-    matched (now .registers) (now .lines) && path (now .registers) && synchronous (now .registers) (now .lines)
+    matched now && path (now .registers) && synchronous now
 
 -- "with offset at or above the limit, or IO seen and the SCSI FIFO holding 8, code 6, nothing stored, offset as before"
 unfoldable pub beyondLimit : State → Bool
 beyondLimit now =
     leb (limit (now .registers)) (now .transfer .offset)
-    || (ioSeen (now .registers) (now .lines) && leb 8 (length (now .transfer .scsi)))
+    || (ioSeen now && leb 8 (length (now .transfer .scsi)))
 
 -- "code 6": a REQ that rises is beyond the limit
 unfoldable pub beyond : State → State → Bool
@@ -149,48 +130,32 @@ countedReq now = synchronousReq now && not (beyondLimit now)
 -- "else, inbound with offset 0 and the SCSI FIFO not empty sets SYNCERR"
 unfoldable pub lateByte : State → Bool
 lateByte now =
-    ioSeen (now .registers) (now .lines) && eqb (now .transfer .offset) 0 && ltb 0 (length (now .transfer .scsi))
+    ioSeen now && eqb (now .transfer .offset) 0 && ltb 0 (length (now .transfer .scsi))
 
 -- "and an inbound byte is stored": that byte, the data seen, or none
 unfoldable pub storedByte : State → List ℕ
 storedByte now =
-    cond (countedReq now && ioSeen (now .registers) (now .lines))
-    (dataSeen (now .registers) (now .lines) (now .transfer) ∷ []) []
+    cond (countedReq now && ioSeen now)
+    (dataSeen now ∷ []) []
 
 unfoldable pub reqRisen : State → State
 reqRisen now =
     let r = now .registers in
     let t = now .transfer in
     let k = now .status in
-    record {
-      lines = now .lines;
-      registers =
-          registersWith (r .scsiseq) (r .sxfrctl0) (withAtn (attention now || r .scsisig .atno) (r .scsisig)) r;
-      transfer =
-          record {
-            host = t .host;
-            scsi = t .scsi ++ storedByte now;
-            counter = t .counter;
-            offset = cond (countedReq now) (t .offset + 1) (t .offset);
-            ack = t .ack;
-            last = t .last;
-          };
-      status =
-          record {
-            spiordy = k .spiordy;
-            scsirsti = k .scsirsti;
-            busfree = k .busfree;
-            scsiperr = parityBad now || k .scsiperr;
-            phasechg = k .phasechg;
-            reqinit = true;
-            syncerr = (countedReq now && lateByte now) || k .syncerr;
-            fwerr = k .fwerr;
-          };
-      latches = now .latches;
-      stack = now .stack;
-      quiet = now .quiet;
-      identity = now .identity;
-    }
+    withStatus
+    (record {
+      spiordy = k .spiordy;
+      scsirsti = k .scsirsti;
+      busfree = k .busfree;
+      scsiperr = parityBad now || k .scsiperr;
+      phasechg = k .phasechg;
+      reqinit = true;
+      syncerr = (countedReq now && lateByte now) || k .syncerr;
+      fwerr = k .fwerr;
+    })
+    (withRegisters (registersWith (r .scsiseq) (r .sxfrctl0) (withAtn (attention now || r .scsisig .atno) (r .scsisig)) r)
+    (withOffset (cond (countedReq now) (t .offset + 1) (t .offset)) (withScsi (t .scsi ++ storedByte now) now)))
 
 unfoldable pub afterReqRises : State → State → State
 afterReqRises last now = cond (reqRises last now) (reqRisen now) now
@@ -198,7 +163,7 @@ afterReqRises last now = cond (reqRises last now) (reqRisen now) now
 -- 4. "Quiet ticks: 0 if BSY or SEL is seen, else ticks add, stopping at 8."
 unfoldable pub quietAfter : ℕ → State → ℕ
 quietAfter ticks now =
-    cond (bsySeen (now .registers) (now .lines) || selSeen (now .registers) (now .lines)) 0 (min 8 (now .quiet + ticks))
+    cond (bsySeen now || selSeen now) 0 (min 8 (now .quiet + ticks))
 
 -- "On reaching 8"
 unfoldable pub busFree : ℕ → State → Bool
@@ -209,26 +174,18 @@ unfoldable pub busFreed : State → State
 busFreed now =
     let r = now .registers in
     let k = now .status in
-    record {
-      lines = now .lines;
-      registers = registersWith (r .scsiseq) (r .sxfrctl0) (scsisigOf false 0) r;
-      transfer = offsetCleared (now .transfer);
-      status =
-          record {
-            spiordy = k .spiordy;
-            scsirsti = k .scsirsti;
-            busfree = true;
-            scsiperr = k .scsiperr;
-            phasechg = k .phasechg;
-            reqinit = k .reqinit;
-            syncerr = k .syncerr;
-            fwerr = k .fwerr;
-          };
-      latches = now .latches;
-      stack = now .stack;
-      quiet = now .quiet;
-      identity = now .identity;
-    }
+    withStatus
+    (record {
+      spiordy = k .spiordy;
+      scsirsti = k .scsirsti;
+      busfree = true;
+      scsiperr = k .scsiperr;
+      phasechg = k .phasechg;
+      reqinit = k .reqinit;
+      syncerr = k .syncerr;
+      fwerr = k .fwerr;
+    })
+    (withRegisters (registersWith (r .scsiseq) (r .sxfrctl0) (scsisigOf false 0) r) (offsetCleared now))
 
 unfoldable pub afterQuietTicks : ℕ → State → State
 afterQuietTicks ticks now =
@@ -237,7 +194,7 @@ afterQuietTicks ticks now =
 
 -- 5. "PHASECHG is set when "connected and not matched" is true here and was false at the end of the last event."
 unfoldable pub phaseChanges : State → State → Bool
-phaseChanges last now = mismatched (now .registers) (now .lines) && not (mismatched (last .registers) (last .lines))
+phaseChanges last now = mismatched now && not (mismatched last)
 
 unfoldable pub phaseChanged : State → State
 phaseChanged now =

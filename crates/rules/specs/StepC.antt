@@ -16,11 +16,11 @@ unfoldable pub conditions : State → Conditions
 conditions s =
     record {
       path = path (s .registers);
-      enabled = s .registers .sxfrctl0 .scsien && path (s .registers) && matched (s .registers) (s .lines);
+      enabled = s .registers .sxfrctl0 .scsien && path (s .registers) && matched s;
       outbound = s .registers .dmacntrl0 .write;
-      synchronous = synchronous (s .registers) (s .lines);
-      req = reqSeen (s .registers) (s .lines);
-      byte = dataSeen (s .registers) (s .lines) (s .transfer);
+      synchronous = synchronous s;
+      req = reqSeen s;
+      byte = dataSeen s;
     }
 
 -- the data path with the moves and ACKs made and the bytes sent so far

@@ -2,14 +2,14 @@
 use Prim.Native.Nat.{ℕ}
 use mathlib.Core.Bool.{Bool, true, false, not, _&&_, _||_}
 use lib.Dec.{ltb}
-use Rattle.rules.specs.State.{State, Transfer}
+use Rattle.rules.specs.State.{State}
+use Rattle.rules.specs.Changed.{withTransfer, withStatus, withLatches}
 use Rattle.rules.specs.Seen.{reqSeen, ackSeen, automatic, normal, matched, path}
 use Rattle.rules.specs.Interrupts.{latched}
 use Rattle.rules.specs.StepA.{afterA}
 use Rattle.rules.specs.StepB.{afterB}
 use Rattle.rules.specs.StepC.{Settling, settledC}
 use Rattle.rules.specs.declared.registers.Registers.{Registers}
-use Rattle.rules.specs.declared.records.Lines.{Lines}
 use Rattle.rules.specs.declared.records.Event.{Event}
 use Rattle.rules.specs.declared.chip.Status.{Status}
 use Rattle.rules.specs.declared.chip.Latches.{Latches}
@@ -19,21 +19,21 @@ unfoldable pub fifoConflict : Registers → Bool
 fifoConflict r = normal r && r .sxfrctl0 .scsien && not (path r)
 
 -- "Automatic mode, matched, REQ seen, automatic ACK off sets SPIORDY."
-unfoldable pub pioReady : Registers → Lines → Transfer → Bool
-pioReady r l t = automatic r && matched r l && reqSeen r l && not (t .ack)
+unfoldable pub pioReady : State → Bool
+pioReady s = automatic (s .registers) && matched s && reqSeen s && not (s .transfer .ack)
 
--- what each status rose to in the event, even if it falls again: REQINIT as after B
-unfoldable pub statusRaised : Registers → Lines → Transfer → Status → Status
-statusRaised r l t b =
+-- what each status rose to in the event, even if it falls again: REQINIT as after B; s has the data path that settling left
+unfoldable pub statusRaised : State → Status
+statusRaised s =
     record {
-      spiordy = pioReady r l t || b .spiordy;
-      scsirsti = b .scsirsti;
-      busfree = b .busfree;
-      scsiperr = b .scsiperr;
-      phasechg = b .phasechg;
-      reqinit = b .reqinit;
-      syncerr = b .syncerr;
-      fwerr = fifoConflict r || b .fwerr;
+      spiordy = pioReady s || s .status .spiordy;
+      scsirsti = s .status .scsirsti;
+      busfree = s .status .busfree;
+      scsiperr = s .status .scsiperr;
+      phasechg = s .status .phasechg;
+      reqinit = s .status .reqinit;
+      syncerr = s .status .syncerr;
+      fwerr = fifoConflict (s .registers) || s .status .fwerr;
     }
 
 -- "Each ACK ... clears REQINIT." "REQINIT also falls when ACK is seen."
@@ -113,17 +113,10 @@ latchesD before r status raised k =
 -- the state after D: last is the state at the end of the last event, a after A, b after B, c what settling left
 unfoldable pub finished : State → State → State → Settling → State
 finished last a b c =
-    let raised = statusRaised (b .registers) (b .lines) (c .transfer) (b .status) in
-    record {
-      lines = b .lines;
-      registers = b .registers;
-      transfer = c .transfer;
-      status = statusD (c .acks) (ackSeen (b .registers) (b .lines) (c .transfer)) raised;
-      latches = latchesD (last .registers) (b .registers) (a .status) raised (b .latches);
-      stack = b .stack;
-      quiet = b .quiet;
-      identity = b .identity;
-    }
+    let s = withTransfer (c .transfer) b in
+    let raised = statusRaised s in
+    withStatus (statusD (c .acks) (ackSeen s) raised)
+    (withLatches (latchesD (last .registers) (b .registers) (a .status) raised (b .latches)) s)
 
 unfoldable pub afterD : State → Event → State
 afterD s e = finished s (afterA s e) (afterB s e) (settledC s e)

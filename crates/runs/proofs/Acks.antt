@@ -6,7 +6,7 @@ use Prim.Native.Nat.{ℕ, _+_, _%_}
 use native.Mathlib.Nat.{add-zero, zero-add}
 use native.Mathlib.Omega.{arith}
 use lib.ListN.{length, length-append}
-use Rattle.rules.specs.State.{State, Transfer}
+use Rattle.rules.specs.State.{State}
 use Rattle.rules.specs.Seen.{manual, ackDriven}
 use Rattle.rules.specs.Codes.{accessCode, isDone}
 use Rattle.rules.specs.StepB.{afterB}
@@ -14,7 +14,6 @@ use Rattle.rules.specs.StepC.{conditions, started, turns, settledC}
 use Rattle.rules.specs.StepD.{finished, afterD}
 use Rattle.rules.specs.Answers.{Stepped}
 use Rattle.rules.specs.Step.{ended, refused, done, step, after}
-use Rattle.rules.specs.declared.registers.Registers.{Registers}
 use Rattle.rules.specs.declared.codes.Code.{Code}
 use Rattle.rules.specs.declared.records.Event.{Event}
 use Rattle.rules.specs.declared.records.Decoded.{Decoded}
@@ -91,6 +90,6 @@ pub write-run-acks : (s : State) (records : List (List ℕ)) → Starts true s �
 write-run-acks s records h q = pairs-from s records (held-at-start true s h) q
 
 -- in a run ACK is driven by the automatic ACK alone: ACKO is 0
-pub run-drives-no-other-ack : (w : Bool) (r : Registers) (t : Transfer) → Held w r → ackDriven r t ≡ t .ack
+pub run-drives-no-other-ack : (w : Bool) (s : State) → Held w (s .registers) → ackDriven s ≡ s .transfer .ack
 unfolding ackDriven manual
-run-drives-no-other-ack w r t h = simp (h .acko, and-false, or-false)
+run-drives-no-other-ack w s h = simp (h .acko, and-false, or-false)

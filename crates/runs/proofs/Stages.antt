@@ -82,9 +82,9 @@ spioen-A s e = ap (λ (a : Apart). a .spioen) (b-leaves s e)
 -- outbound no REQ stores a byte: it is matched only with IO not seen
 outbound-byte : (n : State) → n .registers .dmacntrl0 .write ≡ true → storedByte n ≡ []
 unfolding storedByte countedReq synchronousReq matched path
-outbound-byte n w = go (ioSeen (n .registers) (n .lines)) (n .registers .scsisig .ioexp) refl refl
+outbound-byte n w = go (ioSeen n) (n .registers .scsisig .ioexp) refl refl
   where
-    go : (i x : Bool) → ioSeen (n .registers) (n .lines) ≡ i → n .registers .scsisig .ioexp ≡ x → storedByte n ≡ []
+    go : (i x : Bool) → ioSeen n ≡ i → n .registers .scsisig .ioexp ≡ x → storedByte n ≡ []
     go false x q k = simp (q, and-false)
     go true true q k = simp (q, k, w, and-false)
     go true false q k = simp (q, k, and-false)

@@ -9,7 +9,8 @@ use lib.Seq.{paste, length-paste, length-take-le}
 use Rattle.rules.specs.State.{State}
 use Rattle.rules.specs.Ranges.{InRange}
 use Rattle.settling.specs.Parts.{carried}
-use Rattle.image.specs.Image.{headOf, imageOf, stateAt, IsImage, withTransfer}
+use Rattle.rules.specs.Changed.{withTransfer}
+use Rattle.image.specs.Image.{headOf, imageOf, stateAt, IsImage}
 use Rattle.settling.specs.Laid.{laid, lowered}
 use Rattle.settling.proofs.Places.{Sized, image-laid, scsi-joined, host-joined, scsi-lowered, host-lowered, scsi-from, host-from, counts-set}
 use Rattle.settling.proofs.Kept.{sized, image-long, scsi-count, host-count}

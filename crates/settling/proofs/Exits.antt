@@ -16,7 +16,8 @@ use Rattle.rules.proofs.Logic.{never}
 use Rattle.rules.proofs.Rest.{settling-reports}
 use Rattle.fifos.specs.Fifos.{sentOf}
 use Rattle.settling.specs.Parts.{startOf, movable, carried}
-use Rattle.image.specs.Image.{imageOf, stateAt, IsImage, withTransfer}
+use Rattle.rules.specs.Changed.{withTransfer}
+use Rattle.image.specs.Image.{imageOf, stateAt, IsImage}
 use Rattle.settling.specs.declared.Told.{Told}
 use Rattle.settling.specs.Looks.{lookedAt, mayShake}
 use Rattle.settling.specs.Steps.{Moves}

@@ -21,7 +21,8 @@ use Rattle.settling.specs.Parts.{startOf, movable, carried, movedBy, pas
 use Rattle.settling.proofs.ShakeParts.{shake-parts}
 use Rattle.settling.proofs.Runs.{run-none, run-keeps, run-ends}
 use Rattle.settling.proofs.Underway.{Underway, reports, begins, move-under, handshake-under, room-for-ack, at-end}
-use Rattle.image.specs.Image.{imageOf, stateAt, IsImage, withTransfer}
+use Rattle.rules.specs.Changed.{withTransfer}
+use Rattle.image.specs.Image.{imageOf, stateAt, IsImage}
 use Rattle.settling.specs.declared.Told.{Told}
 use Rattle.settling.specs.Steps.{Moves, sentWith, shakenOf}
 use Rattle.settling.specs.Settles.{Settles, endOf}

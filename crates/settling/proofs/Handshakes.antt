@@ -19,7 +19,8 @@ use Rattle.rules.proofs.Rest.{handshake-full}
 use Rattle.laws.proofs.Lists.{elements, elements-all, padded-length, padded-shift}
 use Rattle.settling.specs.Parts.{startOf, passed, acknowledged}
 use Rattle.settling.proofs.ShakeParts.{passed-none}
-use Rattle.image.specs.Image.{headOf, imageOf, stateAt, IsImage, withTransfer}
+use Rattle.rules.specs.Changed.{withTransfer}
+use Rattle.image.specs.Image.{headOf, imageOf, stateAt, IsImage}
 use Rattle.settling.specs.Laid.{laid, counterPut}
 use Rattle.settling.specs.Steps.{byteOf}
 use Rattle.settling.proofs.Places.{Sized, flat, image-laid, scsi-joined, scsi-from}

@@ -18,7 +18,8 @@ use Rattle.rules.specs.declared.chip.Status.{Status}
 use Rattle.rules.specs.declared.chip.Latches.{Latches}
 use Rattle.rules.specs.declared.chip.Stack.{Stack}
 use Rattle.laws.proofs.Lists.{padded-length}
-use Rattle.image.specs.Image.{headOf, imageOf, stateAt, registersAt, linesAt, transferAt, statusOf, latchesOf, IsImage, withTransfer}
+use Rattle.rules.specs.Changed.{withTransfer}
+use Rattle.image.specs.Image.{headOf, imageOf, stateAt, registersAt, linesAt, transferAt, statusOf, latchesOf, IsImage}
 use Rattle.image.proofs.EightBits.{is-one}
 use Rattle.settling.specs.Laid.{laid}
 use Rattle.settling.proofs.Places.{Sized, image-laid, laid-long, host-from, scsi-from}

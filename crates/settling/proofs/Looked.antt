@@ -68,5 +68,5 @@ pub looked-ends : (s : State) (n : ℕ) (x : Settling) → settle (lookedAt s) n
 unfolding lookedAt conditions
 looked-ends s n x =
     settle-same (s .lines .byte) (conditions s)
-    (λ e o. lines-seen (s .registers) (s .lines) (s .transfer) (io-seen (s .registers) (s .lines) (s .transfer) (right-true (s .registers .sxfrctl0 .scsien) _ (left-true _ (matched (s .registers) (s .lines)) e)) (right-true (s .registers .sxfrctl0 .scsien && path (s .registers)) (matched (s .registers) (s .lines)) e) o))
+    (λ e o. lines-seen (s .registers) (s .lines) (s .transfer) (io-seen (s .registers) (s .lines) (s .transfer) (right-true (s .registers .sxfrctl0 .scsien) _ (left-true _ (matched s) e)) (right-true (s .registers .sxfrctl0 .scsien && path (s .registers)) (matched s) e) o))
     n x

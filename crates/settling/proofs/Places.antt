@@ -8,7 +8,8 @@ use lib.Seq.{paste, take-at, drop-at, take-append-le, length-take-le}
 use Rattle.rules.specs.Numbers.{padded}
 use Rattle.rules.specs.State.{State, Transfer}
 use Rattle.laws.proofs.Lists.{padded-length, padded-take}
-use Rattle.image.specs.Image.{headOf, imageOf, withTransfer}
+use Rattle.rules.specs.Changed.{withTransfer}
+use Rattle.image.specs.Image.{headOf, imageOf}
 use Rattle.settling.specs.Laid.{laid, lowered}
 use Rattle.settling.proofs.Parts.{join-at, lower-at}
 

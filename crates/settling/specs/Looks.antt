@@ -18,5 +18,5 @@ lookedAt s = withByte (s .lines .byte) (conditions s)
 -- "Asynchronous: REQ seen, automatic ACK off"; "Synchronous: offset above 0"
 unfoldable pub mayShake : State → Bool
 mayShake s =
-    cond (synchronous (s .registers) (s .lines)) (ltb 0 (s .transfer .offset))
-    (cond (reqSeen (s .registers) (s .lines)) (not (s .transfer .ack)) false)
+    cond (synchronous s) (ltb 0 (s .transfer .offset))
+    (cond (reqSeen s) (not (s .transfer .ack)) false)

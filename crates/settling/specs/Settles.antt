@@ -6,7 +6,8 @@ use Rattle.rules.specs.Numbers.{padded}
 use Rattle.rules.specs.StepC.{Settling, settle, turns}
 use Rattle.rules.specs.declared.chip.Conditions.{Conditions}
 use Rattle.settling.specs.Parts.{startOf}
-use Rattle.image.specs.Image.{imageOf, stateAt, withTransfer}
+use Rattle.rules.specs.Changed.{withTransfer}
+use Rattle.image.specs.Image.{imageOf, stateAt}
 use Rattle.settling.specs.declared.Told.{Told}
 
 -- the end of settling from the state of an array

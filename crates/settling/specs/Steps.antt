@@ -10,7 +10,8 @@ use Rattle.rules.specs.declared.chip.Conditions.{Conditions}
 use Rattle.fifos.specs.declared.sent.Sent.{Sent}
 use Rattle.fifos.specs.Fifos.{sentView, sentOf}
 use Rattle.settling.specs.Parts.{movable, carried, passed, acknowledged}
-use Rattle.image.specs.Image.{imageOf, stateAt, withTransfer}
+use Rattle.rules.specs.Changed.{withTransfer}
+use Rattle.image.specs.Image.{imageOf, stateAt}
 
 -- the longest run of moves
 pub record Moves (m : List ℕ) (c : Conditions) (m′ : List ℕ) (r : ℕ) : Type 0 where

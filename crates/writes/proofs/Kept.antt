@@ -14,7 +14,8 @@ use Rattle.rules.specs.declared.registers.Scsisig.{Scsisig}
 use Rattle.rules.specs.declared.registers.Registers.{Registers}
 use Rattle.rules.specs.declared.records.Event.{Event}
 use Rattle.rules.specs.declared.records.Event.the-variants.{Write}
-use Rattle.image.specs.Image.{IsImage, imageOf, stateAt, withRegisters, scsisigByte, scsirateByte, scsiidByte}
+use Rattle.rules.specs.Changed.{withRegisters}
+use Rattle.image.specs.Image.{IsImage, imageOf, stateAt, scsisigByte, scsirateByte, scsiidByte}
 use Rattle.image.proofs.EightBits.{bit-0, bit-1, bit-2, bit-3, bit-4, bit-5, bit-6, bit-7}
 use Rattle.writes.proofs.Places.{of-image}
 

@@ -5,7 +5,8 @@ use mathlib.Core.List.{List}
 use lib.ListN.{set, getD}
 use Rattle.rules.specs.State.{State}
 use Rattle.rules.specs.declared.records.Lines.{Lines}
-use Rattle.image.specs.Image.{IsImage, imageOf, stateAt, withLines, withIdentity, upperByte, controlByte}
+use Rattle.rules.specs.Changed.{withLines, withIdentity}
+use Rattle.image.specs.Image.{IsImage, imageOf, stateAt, upperByte, controlByte}
 
 -- what holds of the image of every state holds of an array that is an image
 pub of-image : (f : List ℕ → List ℕ) (g : State → State) → ((s : State) → f (imageOf s) ≡ imageOf (g s)) → (m : List ℕ) → IsImage m → f m ≡ imageOf (g (stateAt m))

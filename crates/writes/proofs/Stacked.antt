@@ -14,7 +14,8 @@ use Rattle.rules.specs.Ranges.{InRange}
 use Rattle.rules.specs.declared.chip.Stack.{Stack}
 use Rattle.laws.proofs.Lists.{padded-length}
 use Rattle.stack.proofs.Places.{place-lt}
-use Rattle.image.specs.Image.{IsImage, imageOf, headOf, stateAt, withStack}
+use Rattle.rules.specs.Changed.{withStack}
+use Rattle.image.specs.Image.{IsImage, imageOf, headOf, stateAt}
 
 -- a store past the first part
 set-append-add : (xs ys : List ℕ) (n a : ℕ) → set (xs ++ ys) (length xs + n) a ≡ xs ++ set ys n a

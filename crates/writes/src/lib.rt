@@ -1,7 +1,8 @@
 // What A stores in the registers, the stack and the turn of the ID bytes, in place.
 ghost use mathlib.Core.Path.{_≡_};
 ghost use Prim.Native.Nat.{_+_, _%_};
-ghost use Rattle.image.specs.Image.{IsImage, imageOf, stateAt, withIdentity};
+ghost use Rattle.rules.specs.Changed.{withIdentity};
+ghost use Rattle.image.specs.Image.{IsImage, imageOf, stateAt};
 
 pub mod stacking;
 pub mod storing;

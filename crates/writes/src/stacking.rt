@@ -3,7 +3,8 @@
 ghost use mathlib.Core.Path.{_≡_};
 ghost use Prim.Native.Nat.{_+_, _%_};
 ghost use Rattle.rules.specs.Stack.{stackSize, stackRead, stackWritten, pointed};
-ghost use Rattle.image.specs.Image.{IsImage, imageOf, stateAt, withStack};
+ghost use Rattle.rules.specs.Changed.{withStack};
+ghost use Rattle.image.specs.Image.{IsImage, imageOf, stateAt};
 
 // The place that a pointer names.
 fn place_of(enstk32: bool, pointer: u8) -> u8

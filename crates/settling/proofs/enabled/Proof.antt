@@ -17,9 +17,9 @@ nested false true d = refl
 nested false false d = refl
 
 -- by the tests, as the code has them
-by-tests : (s : State) (a b d : Bool) → a ≡ s .registers .sxfrctl0 .scsien → b ≡ path (s .registers) → d ≡ matched (s .registers) (s .lines) → cond b (cond a d false) false ≡ (conditions s) .enabled
+by-tests : (s : State) (a b d : Bool) → a ≡ s .registers .sxfrctl0 .scsien → b ≡ path (s .registers) → d ≡ matched s → cond b (cond a d false) false ≡ (conditions s) .enabled
 unfolding conditions
-by-tests s a b d e f g = rw (e, f, g) (nested (s .registers .sxfrctl0 .scsien) (path (s .registers)) (matched (s .registers) (s .lines)))
+by-tests s a b d e f g = rw (e, f, g) (nested (s .registers .sxfrctl0 .scsien) (path (s .registers)) (matched s))
 
 returns : tie.Need-returns
 unfolding stateAt

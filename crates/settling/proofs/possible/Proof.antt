@@ -12,7 +12,7 @@ use Rattle.settling.proofs.possible.Statement.{statement}
 use Rattle.settling.proofs.possible.Tie as tie
 
 -- by the tests, as the code has them
-by-tests : (s : State) (y r : Bool) → y ≡ synchronous (s .registers) (s .lines) → r ≡ reqSeen (s .registers) (s .lines) → cond y (ltb 0 (s .transfer .offset)) (cond r (not (s .transfer .ack)) false) ≡ mayShake s
+by-tests : (s : State) (y r : Bool) → y ≡ synchronous s → r ≡ reqSeen s → cond y (ltb 0 (s .transfer .offset)) (cond r (not (s .transfer .ack)) false) ≡ mayShake s
 unfolding mayShake
 by-tests s y r e f = rw (e, f)
 

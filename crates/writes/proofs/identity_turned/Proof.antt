@@ -4,7 +4,7 @@ use native.Mathlib.Omega.{arith}
 use borrow.Author.Needs.{needs}
 use lib.ListN.{set, getD}
 use Rattle.rules.specs.State.{State}
-use Rattle.image.specs.Image.{withIdentity}
+use Rattle.rules.specs.Changed.{withIdentity}
 use Rattle.writes.proofs.Places.{of-image, identity-below, identity-turned}
 use Rattle.writes.proofs.identity_turned.Statement.{statement}
 use Rattle.writes.proofs.identity_turned.Tie as tie

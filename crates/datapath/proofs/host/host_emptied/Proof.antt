@@ -4,7 +4,7 @@ use Prim.Native.Nat.{ℕ}
 use native.Mathlib.Omega.{arith}
 use borrow.Author.Needs.{needs}
 use Rattle.image.specs.Image.{imageOf, stateAt}
-use Rattle.datapath.specs.Ready.{withHost}
+use Rattle.rules.specs.Changed.{withHost}
 use Rattle.datapath.proofs.Fronts.{none-left, count-fits, placed-at}
 use Rattle.datapath.proofs.host.host_emptied.Statement.{statement}
 use Rattle.datapath.proofs.host.host_emptied.Tie as tie

@@ -6,7 +6,8 @@ use borrow.Author.Needs.{needs}
 use lib.ListN.{length, getD, set, length-append}
 use Rattle.rules.specs.State.{State}
 use Rattle.image.specs.Image.{imageOf, stateAt}
-use Rattle.datapath.specs.Ready.{Placed, withHost}
+use Rattle.rules.specs.Changed.{withHost}
+use Rattle.datapath.specs.Ready.{Placed}
 use Rattle.datapath.proofs.Fronts.{counted, pushed, with-host, placed-at}
 use Rattle.datapath.proofs.host.word_pushed.Statement.{statement}
 use Rattle.datapath.proofs.host.word_pushed.Tie as tie

@@ -3,7 +3,8 @@ use borrow.Author.Tests.{not-true, not-false}
 use mathlib.Core.Path.{refl, ap, sym, _∙_}
 use mathlib.Core.Bool.{true, false}
 use lib.ListN.{getD}
-use Rattle.image.specs.Image.{imageOf, stateAt, withTransfer}
+use Rattle.rules.specs.Changed.{withTransfer}
+use Rattle.image.specs.Image.{imageOf, stateAt}
 use Rattle.edges.specs.Parts.{storedB}
 use Rattle.edges.specs.Frequent.{raisedB}
 use Rattle.edges.proofs.Placed.{scsi-placed, status-placed}

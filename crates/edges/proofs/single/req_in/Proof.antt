@@ -44,7 +44,7 @@ returns-3 c =
     let s = stateAt (start .args .m .now) in
     let on : s .lines .req ≡ true = not-false _ (tested .if2 .left) in
     let off : w ≡ false = other-than (s .lines .req) w (tested .before .if1 .left) ∙ ap not on in
-    let reset : rstSeen (s .registers) (s .lines) ≡ true = sym (c .before .rst-seen .ensures) ∙ c .if3 .taken in
+    let reset : rstSeen s ≡ true = sym (c .before .rst-seen .ensures) ∙ c .if3 .taken in
     let stays : reqRisesFrom w s ≡ false = rw (reset, on, off) in
     (none-beyond w s stays, start .pre ∙ ap imageOf (sym (req-kept w s stays (rw off))))
 
@@ -67,7 +67,7 @@ returns-4 c =
     let s = stateAt (start .args .m .now) in
     let on : s .lines .req ≡ true = not-false _ (tested .if2 .left) in
     let off : w ≡ false = other-than (s .lines .req) w (tested .before .if1 .left) ∙ ap not on in
-    let none : rstSeen (s .registers) (s .lines) ≡ false = sym (reset .before .rst-seen .ensures) ∙ reset .if3 .left in
+    let none : rstSeen s ≡ false = sym (reset .before .rst-seen .ensures) ∙ reset .if3 .left in
     let rises : reqRisesFrom w s ≡ true = rw (none, on, off) in
     let again = status-again (start .pre) (status-placed (raisedB false true false) s (start .pre) (raised .raised-in .ensures)) in (
       c .risen .ensures .0 ∙ ap (λ (x : State). callB x && beyondLimit x) again ∙ risen-beyond w s rises,

@@ -2,7 +2,7 @@ use borrow.Author.Needs.{needs}
 use mathlib.Core.Path.{_≡_, _∙_}
 use lib.ListN.{set}
 use Rattle.rules.specs.Records.{linesOf, payloadOf}
-use Rattle.image.specs.Image.{withLines}
+use Rattle.rules.specs.Changed.{withLines}
 use Rattle.writes.proofs.Places.{of-image, withLineBytes, lines-image}
 use Rattle.effects.proofs.LineBits.{line-byte, line-upper, line-control}
 use Rattle.effects.proofs.driving.lines_put.Statement.{statement}

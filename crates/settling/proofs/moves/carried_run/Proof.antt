@@ -3,7 +3,8 @@ use mathlib.Core.Path.{sym, ap, _∙_}
 use denote.Ref.{now}
 use Rattle.settling.specs.Parts.{carried}
 use Rattle.settling.proofs.Runs.{run-out, run-in}
-use Rattle.image.specs.Image.{imageOf, stateAt, withTransfer}
+use Rattle.rules.specs.Changed.{withTransfer}
+use Rattle.image.specs.Image.{imageOf, stateAt}
 use Rattle.settling.proofs.moves.carried_run.Statement.{statement}
 use Rattle.settling.proofs.moves.carried_run.Tie as tie
 

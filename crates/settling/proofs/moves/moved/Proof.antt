@@ -7,7 +7,8 @@ use borrow.Author.Needs.{needs}
 use Rattle.rules.specs.State.{Transfer}
 use Rattle.settling.specs.Parts.{movable, carried}
 use Rattle.settling.proofs.Runs.{run-small}
-use Rattle.image.specs.Image.{imageOf, stateAt, withTransfer}
+use Rattle.rules.specs.Changed.{withTransfer}
+use Rattle.image.specs.Image.{imageOf, stateAt}
 use Rattle.settling.proofs.Going.{carried-none}
 use Rattle.settling.proofs.moves.moved.Statement.{statement}
 use Rattle.settling.proofs.moves.moved.Tie as tie

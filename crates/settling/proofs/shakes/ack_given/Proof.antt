@@ -3,7 +3,8 @@ use mathlib.Core.Bool.{Bool}
 use denote.Ref.{now}
 use borrow.Author.Needs.{needs}
 use Rattle.settling.specs.Parts.{acknowledged}
-use Rattle.image.specs.Image.{imageOf, stateAt, withTransfer}
+use Rattle.rules.specs.Changed.{withTransfer}
+use Rattle.image.specs.Image.{imageOf, stateAt}
 use Rattle.settling.proofs.Handshakes.{ack-pulse, ack-on}
 use Rattle.settling.proofs.shakes.ack_given.Statement.{statement}
 use Rattle.settling.proofs.shakes.ack_given.Tie as tie

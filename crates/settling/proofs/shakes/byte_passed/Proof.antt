@@ -10,7 +10,8 @@ use Rattle.rules.specs.StepC.{storedBy}
 use Rattle.rules.proofs.Rest.{handshake-inbound, handshake-outbound}
 use Rattle.laws.proofs.Lists.{take-one}
 use Rattle.fifos.specs.Fifos.{sentView, sentOf}
-use Rattle.image.specs.Image.{imageOf, stateAt, withTransfer}
+use Rattle.rules.specs.Changed.{withTransfer}
+use Rattle.image.specs.Image.{imageOf, stateAt}
 use Rattle.settling.proofs.Handshakes.{pass-none, pass-stored, pass-sent}
 use Rattle.settling.proofs.shakes.byte_passed.Statement.{statement}
 use Rattle.settling.proofs.shakes.byte_passed.Tie as tie

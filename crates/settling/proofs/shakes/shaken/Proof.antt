@@ -4,7 +4,8 @@ use denote.Ref.{now}
 use borrow.Author.Needs.{needs}
 use Rattle.rules.specs.State.{State}
 use Rattle.settling.specs.Parts.{acknowledged}
-use Rattle.image.specs.Image.{IsImage, imageOf, stateAt, withTransfer}
+use Rattle.rules.specs.Changed.{withTransfer}
+use Rattle.image.specs.Image.{IsImage, imageOf, stateAt}
 use Rattle.settling.specs.Steps.{byteOf}
 use Rattle.settling.proofs.Kept.{kept}
 use Rattle.settling.proofs.Handshakes.{passed-fits, passed-bytes}
