@@ -20,10 +20,15 @@ use crate::taken::registers_at;
 use crate::taken::stack_at;
 use image::bytes::latches_of;
 use image::bytes::status_of;
+use image::layout::IDENTITY;
+use image::layout::Image;
+use image::layout::LATCHES;
+use image::layout::QUIET;
+use image::layout::STATUS;
 use rules::chip::Chip;
 
 // A chip value into the array, whatever stood there.
-pub fn store(c: Chip, m: &mut [u8; 196])
+pub fn store(c: Chip, m: &mut Image)
     requires { ⌜ Tidy c ⌝ }
     ensures { λ _. ⌜ Stored c (now (m .exit)) ⌝ }
 {
@@ -51,15 +56,15 @@ pub fn store(c: Chip, m: &mut [u8; 196])
 }
 
 // The chip value that an image stands for.
-pub fn load(m: &[u8; 196]) -> Chip
+pub fn load(m: &Image) -> Chip
     requires { ⌜ IsImage (now m) ⌝ }
     ensures { λ r. ⌜ r ≡ chipOf (stateAt (now (m .entry))) ⌝ }
 {
     let lines = lines_at(m);
     let registers = registers_at(m);
     let path = path_at(m);
-    let status = status_of(m[12]);
-    let latches = latches_of(m[13]);
+    let status = status_of(m[STATUS]);
+    let latches = latches_of(m[LATCHES]);
     let stack = stack_at(m);
     Chip {
         lines: lines,
@@ -68,7 +73,7 @@ pub fn load(m: &[u8; 196]) -> Chip
         status: status,
         latches: latches,
         stack: stack,
-        quiet: m[20],
-        identity: m[21],
+        quiet: m[QUIET],
+        identity: m[IDENTITY],
     }
 }

@@ -5,11 +5,44 @@ ghost use lib.ListN.{length};
 ghost use lib.Seq.{sets};
 ghost use Rattle.rules.specs.Ranges.{RegistersFit, RegistersBytes};
 ghost use Rattle.chips.specs.Parts.{registersBytes, flagsBytes, numbersBytes, countsBytes, Placed};
+ghost use Rattle.image.specs.Layout.{hostBytesPlace, imageSize, offsetPlace, scsiBytesPlace, scsiCountPlace, scsiseqPlace, stackBytesPlace, statusPlace};
 use image::bytes::control_byte;
 use image::bytes::latches_byte;
 use image::bytes::scsisig_byte;
 use image::bytes::status_byte;
 use image::bytes::upper_byte;
+use image::layout::ACK;
+use image::layout::BRSTCNTRL;
+use image::layout::COUNTER_HIGH;
+use image::layout::COUNTER_LOW;
+use image::layout::COUNTER_MIDDLE;
+use image::layout::DMACNTRL0;
+use image::layout::DMACNTRL1;
+use image::layout::HOST_BYTES;
+use image::layout::HOST_COUNT;
+use image::layout::IDENTITY;
+use image::layout::Image;
+use image::layout::LAST;
+use image::layout::LATCHES;
+use image::layout::LINES_CONTROL;
+use image::layout::LINES_DATA;
+use image::layout::LINES_UPPER;
+use image::layout::OFFSET;
+use image::layout::POINTER;
+use image::layout::QUIET;
+use image::layout::SCSI_BYTES;
+use image::layout::SCSI_COUNT;
+use image::layout::SCSIDAT;
+use image::layout::SCSIID;
+use image::layout::SCSIRATE;
+use image::layout::SCSISEQ;
+use image::layout::SCSISIG;
+use image::layout::SIMODE0;
+use image::layout::SIMODE1;
+use image::layout::STACK_BYTES;
+use image::layout::STATUS;
+use image::layout::SXFRCTL0;
+use image::layout::SXFRCTL1;
 use registers::bytes::dmacntrl0_byte;
 use registers::bytes::dmacntrl1_byte;
 use registers::bytes::scsiseq_byte;
@@ -23,33 +56,33 @@ use rules::records::Lines;
 use rules::registers::Registers;
 
 // 340h to 356h as written.
-pub fn put_registers(r: Registers, m: &mut [u8; 196])
+pub fn put_registers(r: Registers, m: &mut Image)
     requires { ⌜ RegistersFit r ⌝ }
-    ensures { λ _. ⌜ (now (m .exit) ≡ sets (now (m .entry)) 0 (registersBytes r)) × RegistersBytes r ⌝ }
+    ensures { λ _. ⌜ (now (m .exit) ≡ sets (now (m .entry)) scsiseqPlace (registersBytes r)) × RegistersBytes r ⌝ }
 {
-    m[0] = scsiseq_byte(r.scsiseq);
-    m[1] = sxfrctl0_byte(r.sxfrctl0);
-    m[2] = sxfrctl1_byte(r.sxfrctl1);
-    m[3] = scsisig_byte(r.scsisig);
-    m[4] = r.scsirate.sxfr * 16 + r.scsirate.sofs;
-    m[5] = r.scsiid.oid * 16 + r.scsiid.tid;
-    m[6] = r.scsidat;
-    m[7] = simode0_byte(r.simode0);
-    m[8] = simode1_byte(r.simode1);
-    m[9] = dmacntrl0_byte(r.dmacntrl0);
-    m[10] = dmacntrl1_byte(r.dmacntrl1, 0);
-    m[11] = r.brstcntrl;
+    m[SCSISEQ] = scsiseq_byte(r.scsiseq);
+    m[SXFRCTL0] = sxfrctl0_byte(r.sxfrctl0);
+    m[SXFRCTL1] = sxfrctl1_byte(r.sxfrctl1);
+    m[SCSISIG] = scsisig_byte(r.scsisig);
+    m[SCSIRATE] = r.scsirate.sxfr * 16 + r.scsirate.sofs;
+    m[SCSIID] = r.scsiid.oid * 16 + r.scsiid.tid;
+    m[SCSIDAT] = r.scsidat;
+    m[SIMODE0] = simode0_byte(r.simode0);
+    m[SIMODE1] = simode1_byte(r.simode1);
+    m[DMACNTRL0] = dmacntrl0_byte(r.dmacntrl0);
+    m[DMACNTRL1] = dmacntrl1_byte(r.dmacntrl1, 0);
+    m[BRSTCNTRL] = r.brstcntrl;
 }
 
 // Status, latches and the lines that others drive.
-pub fn put_flags(t: Status, k: Latches, l: Lines, m: &mut [u8; 196])
-    ensures { λ _. ⌜ (now (m .exit) ≡ sets (now (m .entry)) 12 (flagsBytes t k l)) × (l .byte < 256) ⌝ }
+pub fn put_flags(t: Status, k: Latches, l: Lines, m: &mut Image)
+    ensures { λ _. ⌜ (now (m .exit) ≡ sets (now (m .entry)) statusPlace (flagsBytes t k l)) × (l .byte < 256) ⌝ }
 {
-    m[12] = status_byte(t);
-    m[13] = latches_byte(k);
-    m[14] = l.byte;
-    m[15] = upper_byte(l);
-    m[16] = control_byte(l);
+    m[STATUS] = status_byte(t);
+    m[LATCHES] = latches_byte(k);
+    m[LINES_DATA] = l.byte;
+    m[LINES_UPPER] = upper_byte(l);
+    m[LINES_CONTROL] = control_byte(l);
 }
 
 // What is kept as a number below 256.
@@ -60,53 +93,53 @@ pub fn put_numbers(
     quiet: u8,
     identity: u8,
     pointer: u8,
-    m: &mut [u8; 196],
+    m: &mut Image,
 )
-    ensures { λ _. ⌜ (now (m .exit) ≡ sets (now (m .entry)) 17 (numbersBytes offset ack last quiet identity pointer)) × (last < 256) ⌝ }
+    ensures { λ _. ⌜ (now (m .exit) ≡ sets (now (m .entry)) offsetPlace (numbersBytes offset ack last quiet identity pointer)) × (last < 256) ⌝ }
 {
-    m[17] = offset;
-    m[18] = ack as u8;
-    m[19] = last;
-    m[20] = quiet;
-    m[21] = identity;
-    m[22] = pointer;
+    m[OFFSET] = offset;
+    m[ACK] = ack as u8;
+    m[LAST] = last;
+    m[QUIET] = quiet;
+    m[IDENTITY] = identity;
+    m[POINTER] = pointer;
 }
 
 // The counts of the FIFOs, and the counter's three bytes.
-pub fn put_counts(scsi: usize, host: usize, counter: u32, m: &mut [u8; 196])
+pub fn put_counts(scsi: usize, host: usize, counter: u32, m: &mut Image)
     requires { ⌜ (scsi < 256) × (host < 256) ⌝ }
-    ensures { λ _. ⌜ now (m .exit) ≡ sets (now (m .entry)) 23 (countsBytes scsi host counter) ⌝ }
+    ensures { λ _. ⌜ now (m .exit) ≡ sets (now (m .entry)) scsiCountPlace (countsBytes scsi host counter) ⌝ }
 {
-    m[23] = scsi as u8;
-    m[24] = host as u8;
-    m[25] = ((counter >> 0) % 256) as u8;
-    m[26] = ((counter >> 8) % 256) as u8;
-    m[27] = ((counter >> 16) % 256) as u8;
+    m[SCSI_COUNT] = scsi as u8;
+    m[HOST_COUNT] = host as u8;
+    m[COUNTER_LOW] = ((counter >> 0) % 256) as u8;
+    m[COUNTER_MIDDLE] = ((counter >> 8) % 256) as u8;
+    m[COUNTER_HIGH] = ((counter >> 16) % 256) as u8;
 }
 
 pub fn put_scsi(b: [u8; 8], m: &mut [u8])
-    requires { ⌜ length (now m) ≡ 196 ⌝ }
-    ensures { λ _. ⌜ Placed (now (m .entry)) 28 b 8 (now (m .exit)) ⌝ }
+    requires { ⌜ length (now m) ≡ imageSize ⌝ }
+    ensures { λ _. ⌜ Placed (now (m .entry)) scsiBytesPlace b 8 (now (m .exit)) ⌝ }
 {
     for i in 0..8usize {
-        m[28 + i] = b[i];
+        m[SCSI_BYTES + i] = b[i];
     }
 }
 
 pub fn put_stack(b: [u8; 32], m: &mut [u8])
-    requires { ⌜ length (now m) ≡ 196 ⌝ }
-    ensures { λ _. ⌜ Placed (now (m .entry)) 36 b 32 (now (m .exit)) ⌝ }
+    requires { ⌜ length (now m) ≡ imageSize ⌝ }
+    ensures { λ _. ⌜ Placed (now (m .entry)) stackBytesPlace b 32 (now (m .exit)) ⌝ }
 {
     for i in 0..32usize {
-        m[36 + i] = b[i];
+        m[STACK_BYTES + i] = b[i];
     }
 }
 
 pub fn put_host(b: [u8; 128], m: &mut [u8])
-    requires { ⌜ length (now m) ≡ 196 ⌝ }
-    ensures { λ _. ⌜ Placed (now (m .entry)) 68 b 128 (now (m .exit)) ⌝ }
+    requires { ⌜ length (now m) ≡ imageSize ⌝ }
+    ensures { λ _. ⌜ Placed (now (m .entry)) hostBytesPlace b 128 (now (m .exit)) ⌝ }
 {
     for i in 0..128usize {
-        m[68 + i] = b[i];
+        m[HOST_BYTES + i] = b[i];
     }
 }

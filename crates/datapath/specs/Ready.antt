@@ -21,4 +21,3 @@ counterWritten k v s = withCounter (counterWith k v (s .transfer .counter)) s
 
 abbrev pub counterCounted : State → State
 counterCounted s = withCounter (counted (s .transfer .counter)) s
-

@@ -5,37 +5,42 @@ ghost use Prim.Native.Nat.{_+_, _*_};
 ghost use Rattle.image.specs.Image.{imageOf, stateAt, IsImage};
 ghost use Rattle.rules.specs.Changed.{withCounter, withAck};
 ghost use Rattle.datapath.specs.Ready.{counterWritten, counterCounted};
+use image::layout::ACK;
+use image::layout::COUNTER_HIGH;
+use image::layout::COUNTER_LOW;
+use image::layout::COUNTER_MIDDLE;
+use image::layout::Image;
 
 // "CLRSTCNT zeroes the counter"
-pub fn counter_zeroed(m: &mut [u8; 196])
+pub fn counter_zeroed(m: &mut Image)
     requires { ⌜ IsImage (now m) ⌝ }
     ensures { λ _. ⌜ now (m .exit) ≡ imageOf (withCounter 0 (stateAt (now (m .entry)))) ⌝ }
 {
-    m[25] = 0;
-    m[26] = 0;
-    m[27] = 0;
+    m[COUNTER_LOW] = 0;
+    m[COUNTER_MIDDLE] = 0;
+    m[COUNTER_HIGH] = 0;
 }
 
 // "The counter writes as 24 bits, 348h lowest"
-pub fn low_written(m: &mut [u8; 196], value: u8)
+pub fn low_written(m: &mut Image, value: u8)
     requires { ⌜ IsImage (now m) ⌝ }
     ensures { λ _. ⌜ now (m .exit) ≡ imageOf (counterWritten 0 value (stateAt (now (m .entry)))) ⌝ }
 {
-    m[25] = value;
+    m[COUNTER_LOW] = value;
 }
 
-pub fn middle_written(m: &mut [u8; 196], value: u8)
+pub fn middle_written(m: &mut Image, value: u8)
     requires { ⌜ IsImage (now m) ⌝ }
     ensures { λ _. ⌜ now (m .exit) ≡ imageOf (counterWritten 1 value (stateAt (now (m .entry)))) ⌝ }
 {
-    m[26] = value;
+    m[COUNTER_MIDDLE] = value;
 }
 
-pub fn high_written(m: &mut [u8; 196], value: u8)
+pub fn high_written(m: &mut Image, value: u8)
     requires { ⌜ IsImage (now m) ⌝ }
     ensures { λ _. ⌜ now (m .exit) ≡ imageOf (counterWritten 2 value (stateAt (now (m .entry)))) ⌝ }
 {
-    m[27] = value;
+    m[COUNTER_HIGH] = value;
 }
 
 fn joined(low: u8, middle: u8, high: u8) -> u32
@@ -45,24 +50,24 @@ fn joined(low: u8, middle: u8, high: u8) -> u32
 }
 
 // "adds one to the counter", modulo 16,777,216
-fn one_more(m: &mut [u8; 196])
+fn one_more(m: &mut Image)
     requires { ⌜ IsImage (now m) ⌝ }
     ensures { λ _. ⌜ now (m .exit) ≡ imageOf (counterCounted (stateAt (now (m .entry)))) ⌝ }
 {
-    let n = counter::counted(joined(m[25], m[26], m[27]));
+    let n = counter::counted(joined(m[COUNTER_LOW], m[COUNTER_MIDDLE], m[COUNTER_HIGH]));
     let low = counter::counter_byte(0, n);
     let middle = counter::counter_byte(1, n);
     let high = counter::counter_byte(2, n);
-    m[25] = low;
-    m[26] = middle;
-    m[27] = high;
+    m[COUNTER_LOW] = low;
+    m[COUNTER_MIDDLE] = middle;
+    m[COUNTER_HIGH] = high;
 }
 
 // "turns automatic ACK on, adds one to the counter"
-pub fn acknowledged(m: &mut [u8; 196])
+pub fn acknowledged(m: &mut Image)
     requires { ⌜ IsImage (now m) ⌝ }
     ensures { λ _. ⌜ now (m .exit) ≡ imageOf (withAck true (counterCounted (stateAt (now (m .entry))))) ⌝ }
 {
     one_more(m);
-    m[18] = 1;
+    m[ACK] = 1;
 }

@@ -5,32 +5,36 @@ ghost use Prim.Native.Nat.{_+_, _%_, _/_, _<_, _≤_};
 ghost use lib.ListN.{getD, set, drop};
 ghost use Rattle.image.specs.Image.{imageOf, stateAt, IsImage};
 ghost use Rattle.rules.specs.Changed.{withHost};
+ghost use Rattle.image.specs.Layout.{hostBytesPlace, hostCountPlace};
 use image::copies::copied;
 use image::copies::zeroed;
+use image::layout::HOST_BYTES;
+use image::layout::HOST_COUNT;
+use image::layout::Image;
 
 // One byte more.
-fn push(m: &mut [u8; 196], b: u8)
-    requires { ⌜ getD (now m) 24 0 < 128 ⌝ }
-    ensures { λ _. ⌜ now (m .exit) ≡ set (set (now (m .entry)) (68 + getD (now (m .entry)) 24 0) b) 24 (getD (now (m .entry)) 24 0 + 1) ⌝ }
+fn push(m: &mut Image, b: u8)
+    requires { ⌜ getD (now m) hostCountPlace 0 < 128 ⌝ }
+    ensures { λ _. ⌜ now (m .exit) ≡ set (set (now (m .entry)) (hostBytesPlace + getD (now (m .entry)) hostCountPlace 0) b) hostCountPlace (getD (now (m .entry)) hostCountPlace 0 + 1) ⌝ }
 {
-    let n = m[24];
+    let n = m[HOST_COUNT];
     let at = n as usize;
-    m[68 + at] = b;
-    m[24] = n + 1;
+    m[HOST_BYTES + at] = b;
+    m[HOST_COUNT] = n + 1;
 }
 
-pub fn host_pushed(m: &mut [u8; 196], b: u8)
+pub fn host_pushed(m: &mut Image, b: u8)
     requires { ⌜ IsImage (now m) ⌝ }
-    requires { ⌜ getD (now m) 24 0 < 128 ⌝ }
+    requires { ⌜ getD (now m) hostCountPlace 0 < 128 ⌝ }
     ensures { λ _. ⌜ now (m .exit) ≡ imageOf (withHost ((stateAt (now (m .entry))) .transfer .host ++ (b ∷ [])) (stateAt (now (m .entry)))) ⌝ }
 {
     push(m, b);
 }
 
 // "A word's low byte comes first."
-pub fn word_pushed(m: &mut [u8; 196], word: u16)
+pub fn word_pushed(m: &mut Image, word: u16)
     requires { ⌜ IsImage (now m) ⌝ }
-    requires { ⌜ getD (now m) 24 0 < 127 ⌝ }
+    requires { ⌜ getD (now m) hostCountPlace 0 < 127 ⌝ }
     ensures { λ _. ⌜ now (m .exit) ≡ imageOf (withHost ((stateAt (now (m .entry))) .transfer .host ++ (word % 256 ∷ word / 256 ∷ [])) (stateAt (now (m .entry)))) ⌝ }
 {
     push(m, (word % 256) as u8);
@@ -38,23 +42,23 @@ pub fn word_pushed(m: &mut [u8; 196], word: u16)
 }
 
 // The rest moved down over the k oldest, and zeros behind it.
-pub fn host_popped(m: &mut [u8; 196], k: usize)
+pub fn host_popped(m: &mut Image, k: usize)
     requires { ⌜ IsImage (now m) ⌝ }
-    requires { ⌜ k ≤ getD (now m) 24 0 ⌝ }
+    requires { ⌜ k ≤ getD (now m) hostCountPlace 0 ⌝ }
     ensures { λ _. ⌜ now (m .exit) ≡ imageOf (withHost (drop k ((stateAt (now (m .entry))) .transfer .host)) (stateAt (now (m .entry)))) ⌝ }
 {
-    let n = m[24] as usize;
+    let n = m[HOST_COUNT] as usize;
     let rest = n - k;
-    copied(m, 68 + k, 68, rest);
-    zeroed(m, 68 + rest, k);
-    m[24] = rest as u8;
+    copied(m, HOST_BYTES + k, HOST_BYTES, rest);
+    zeroed(m, HOST_BYTES + rest, k);
+    m[HOST_COUNT] = rest as u8;
 }
 
 // "RSTFIFO empties the host FIFO."
-pub fn host_emptied(m: &mut [u8; 196])
+pub fn host_emptied(m: &mut Image)
     requires { ⌜ IsImage (now m) ⌝ }
     ensures { λ _. ⌜ now (m .exit) ≡ imageOf (withHost [] (stateAt (now (m .entry)))) ⌝ }
 {
-    let n = m[24] as usize;
+    let n = m[HOST_COUNT] as usize;
     host_popped(m, n);
 }

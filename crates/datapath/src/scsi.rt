@@ -4,14 +4,18 @@ ghost use mathlib.Core.List.{[]};
 ghost use Rattle.image.specs.Image.{imageOf, stateAt, IsImage};
 ghost use Rattle.rules.specs.Changed.{withScsi, withOffset};
 use image::copies::zeroed;
+use image::layout::Image;
+use image::layout::OFFSET;
+use image::layout::SCSI_BYTES;
+use image::layout::SCSI_COUNT;
 
 // "CLRCH empties the SCSI FIFO and zeroes the offset"
-pub fn channel_cleared(m: &mut [u8; 196])
+pub fn channel_cleared(m: &mut Image)
     requires { ⌜ IsImage (now m) ⌝ }
     ensures { λ _. ⌜ now (m .exit) ≡ imageOf (withOffset 0 (withScsi [] (stateAt (now (m .entry))))) ⌝ }
 {
-    let n = m[23] as usize;
-    zeroed(m, 28, n);
-    m[23] = 0;
-    m[17] = 0;
+    let n = m[SCSI_COUNT] as usize;
+    zeroed(m, SCSI_BYTES, n);
+    m[SCSI_COUNT] = 0;
+    m[OFFSET] = 0;
 }

@@ -12,11 +12,21 @@ ghost use Rattle.image.specs.Image.{imageOf, stateAt, registersAt, linesAt, tra
 ghost use Rattle.edges.specs.Parts.{scsiseqB, sxfrctl0B, scsisigB, transferB, statusB};
 ghost use Rattle.edges.specs.Room.{Room};
 ghost use Rattle.edges.specs.Stored.{registersStored, byteStored, countStored, statusStored};
+ghost use Rattle.image.specs.Layout.{offsetPlace, scsiCountPlace};
 use crate::edges::Edges;
 use image::bus::data_seen;
 use image::bytes::scsisig_byte;
 use image::bytes::status_byte;
 use image::bytes::status_of;
+use image::layout::ACK;
+use image::layout::Image;
+use image::layout::OFFSET;
+use image::layout::SCSI_BYTES;
+use image::layout::SCSI_COUNT;
+use image::layout::SCSISEQ;
+use image::layout::SCSISIG;
+use image::layout::STATUS;
+use image::layout::SXFRCTL0;
 use registers::bytes::scsiseq_byte;
 use registers::bytes::scsiseq_of;
 use registers::bytes::scsisig_of;
@@ -92,20 +102,20 @@ fn scsisig_after(zeroed: bool, attention: bool, v: u8) -> u8
     scsisig_byte(g)
 }
 
-fn registers_stored(m: &mut [u8; 196], reset: bool, bad: bool, free: bool)
+fn registers_stored(m: &mut Image, reset: bool, bad: bool, free: bool)
     ensures { λ _. ⌜ now (m .exit) ≡ registersStored reset bad free (now (m .entry)) ⌝ }
 {
-    let attention = bad & ((m[0] >> 1) % 2 == 1);
-    let q = scsiseq_after(reset, m[0]);
-    let x = sxfrctl0_after(reset, m[1]);
-    let g = scsisig_after(reset | free, attention, m[3]);
-    m[0] = q;
-    m[1] = x;
-    m[3] = g;
+    let attention = bad & ((m[SCSISEQ] >> 1) % 2 == 1);
+    let q = scsiseq_after(reset, m[SCSISEQ]);
+    let x = sxfrctl0_after(reset, m[SXFRCTL0]);
+    let g = scsisig_after(reset | free, attention, m[SCSISIG]);
+    m[SCSISEQ] = q;
+    m[SXFRCTL0] = x;
+    m[SCSISIG] = g;
 }
 
 // The registers after a bus reset, a parity error and bus free; nothing else changes them here.
-pub fn registers_in(m: &mut [u8; 196], reset: bool, bad: bool, free: bool)
+pub fn registers_in(m: &mut Image, reset: bool, bad: bool, free: bool)
     ensures { λ _. ⌜ now (m .exit) ≡ cond (reset || bad || free) (registersStored reset bad free (now (m .entry))) (now (m .entry)) ⌝ }
 {
     if !(reset | bad | free) {
@@ -115,26 +125,26 @@ pub fn registers_in(m: &mut [u8; 196], reset: bool, bad: bool, free: bool)
 }
 
 // The byte that is stored; where none is, what is seen need not be known.
-pub fn byte_seen(m: &[u8; 196], stored: bool) -> u8
+pub fn byte_seen(m: &Image, stored: bool) -> u8
     ensures { λ b. ⌜ b ≡ cond stored (dataSeen (stateAt (now (m .entry)))) 0 ⌝ }
 {
     if stored { data_seen(m) } else { 0 }
 }
 
 // The byte in the first free place of the SCSI FIFO.
-pub fn byte_stored(m: &mut [u8; 196], byte: u8)
-    requires { ⌜ getD (now m) 23 0 < 8 ⌝ }
+pub fn byte_stored(m: &mut Image, byte: u8)
+    requires { ⌜ getD (now m) scsiCountPlace 0 < 8 ⌝ }
     ensures { λ _. ⌜ now (m .exit) ≡ byteStored byte (now (m .entry)) ⌝ }
 {
-    let held = m[23];
+    let held = m[SCSI_COUNT];
     let at = held as usize;
-    m[28 + at] = byte;
-    m[23] = held + 1;
+    m[SCSI_BYTES + at] = byte;
+    m[SCSI_COUNT] = held + 1;
 }
 
 // "an inbound byte is stored"
-fn scsi_in(m: &mut [u8; 196], stored: bool, byte: u8)
-    requires { ⌜ (stored ≡ true → getD (now m) 23 0 < 8) ⌝ }
+fn scsi_in(m: &mut Image, stored: bool, byte: u8)
+    requires { ⌜ (stored ≡ true → getD (now m) scsiCountPlace 0 < 8) ⌝ }
     ensures { λ _. ⌜ now (m .exit) ≡ cond stored (byteStored byte (now (m .entry))) (now (m .entry)) ⌝ }
 {
     if stored {
@@ -159,18 +169,18 @@ fn ack_b(released: bool, ack: u8) -> u8
 }
 
 // "offset goes up one"; "automatic ACK is released"
-fn counted_in(m: &mut [u8; 196], zeroed: bool, counted: bool, released: bool)
-    requires { ⌜ (counted ≡ true → getD (now m) 17 0 < 8) ⌝ }
+fn counted_in(m: &mut Image, zeroed: bool, counted: bool, released: bool)
+    requires { ⌜ (counted ≡ true → getD (now m) offsetPlace 0 < 8) ⌝ }
     ensures { λ _. ⌜ now (m .exit) ≡ countStored zeroed counted released (now (m .entry)) ⌝ }
 {
-    let offset = offset_b(zeroed, counted, m[17]);
-    let ack = ack_b(released, m[18]);
-    m[17] = offset;
-    m[18] = ack;
+    let offset = offset_b(zeroed, counted, m[OFFSET]);
+    let ack = ack_b(released, m[ACK]);
+    m[OFFSET] = offset;
+    m[ACK] = ack;
 }
 
 // The data path after B; the host FIFO and the counter stay.
-pub fn path_in(m: &mut [u8; 196], g: Edges, byte: u8)
+pub fn path_in(m: &mut Image, g: Edges, byte: u8)
     requires { ⌜ IsImage (now m) ⌝ }
     requires { ⌜ Room g ((stateAt (now m)) .transfer) ⌝ }
     ensures { λ _. ⌜ now (m .exit) ≡ imageOf (withTransfer (transferB g byte ((stateAt (now (m .entry))) .transfer)) (stateAt (now (m .entry)))) ⌝ }
@@ -207,9 +217,9 @@ fn status_after(g: Edges, changed: bool, v: u8) -> u8
 }
 
 // The status after B, where the phase changed or not.
-pub fn status_in(m: &mut [u8; 196], g: Edges, changed: bool)
+pub fn status_in(m: &mut Image, g: Edges, changed: bool)
     ensures { λ _. ⌜ now (m .exit) ≡ statusStored (statusB g changed) (now (m .entry)) ⌝ }
 {
-    let v = status_after(g, changed, m[12]);
-    m[12] = v;
+    let v = status_after(g, changed, m[STATUS]);
+    m[STATUS] = v;
 }

@@ -8,6 +8,9 @@ use crate::edges::Edges;
 use crate::last::Before;
 use image::bus::mismatched;
 use image::bus::rst_seen;
+use image::layout::Image;
+use image::layout::LINES_CONTROL;
+use image::layout::QUIET;
 
 mod after;
 mod edges;
@@ -17,20 +20,20 @@ pub mod since;
 mod single;
 
 // What step B of the next event asks of this one.
-fn last_seen(m: &[u8; 196]) -> Before
+fn last_seen(m: &Image) -> Before
     ensures { λ b. ⌜ b .rst ≡ rstSeen (stateAt (now (m .entry))) ⌝ }
     ensures { λ b. ⌜ b .req ≡ reqSeen (stateAt (now (m .entry))) ⌝ }
     ensures { λ b. ⌜ b .mismatched ≡ mismatched (stateAt (now (m .entry))) ⌝ }
 {
     Before {
         rst: rst_seen(m),
-        req: (m[16] >> 1) % 2 == 1,
+        req: (m[LINES_CONTROL] >> 1) % 2 == 1,
         mismatched: mismatched(m),
     }
 }
 
 // The edges between the end of the last event and now, after A.
-fn edges_of(m: &[u8; 196], was: Before, ticks: u32) -> Edges
+fn edges_of(m: &Image, was: Before, ticks: u32) -> Edges
     requires { ⌜ IsImage (now m) ⌝ }
     ensures { λ r. ⌜ r ≡ edgesFrom (was .rst) (was .req) (stateAt (now (m .entry))) ticks ⌝ }
 {
@@ -42,21 +45,21 @@ fn edges_of(m: &[u8; 196], was: Before, ticks: u32) -> Edges
     let late = found::late_byte(m, req & !beyond);
     let quiet = found::quiet_after(m, reset, ticks);
     Edges {
-        reqfalls: was.req & !((m[16] >> 1) % 2 == 1),
+        reqfalls: was.req & !((m[LINES_CONTROL] >> 1) % 2 == 1),
         rstrises: reset,
         reqrises: rises,
         paritybad: bad,
         beyond: beyond,
         counted: req & !beyond,
-        stored: req & !beyond & ((m[16] >> 6) % 2 == 1),
+        stored: req & !beyond & ((m[LINES_CONTROL] >> 6) % 2 == 1),
         late: late,
-        free: (8 <= quiet) & !(8 <= m[20]),
+        free: (8 <= quiet) & !(8 <= m[QUIET]),
         quiet: quiet,
     }
 }
 
 // The chip after B. The byte is read before the registers change, the phase is judged after.
-fn applied_in(m: &mut [u8; 196], g: Edges, was: Before)
+fn applied_in(m: &mut Image, g: Edges, was: Before)
     requires { ⌜ IsImage (now m) ⌝ }
     requires { ⌜ Room g ((stateAt (now m)) .transfer) ⌝ }
     ensures { λ _. ⌜ now (m .exit) ≡ imageOf (appliedFrom g (was .mismatched) (stateAt (now (m .entry)))) ⌝ }
@@ -66,11 +69,11 @@ fn applied_in(m: &mut [u8; 196], g: Edges, was: Before)
     after::registers_in(m, g.rstrises, g.paritybad, g.free);
     let seen = mismatched(m);
     after::status_in(m, g, seen & !was.mismatched);
-    m[20] = g.quiet;
+    m[QUIET] = g.quiet;
 }
 
 // The rare edges: all are found, then applied.
-fn all_in(m: &mut [u8; 196], was: Before, ticks: u32) -> bool
+fn all_in(m: &mut Image, was: Before, ticks: u32) -> bool
     requires { ⌜ IsImage (now m) ⌝ }
     ensures { λ b. ⌜ b ≡ (edgesFrom (was .rst) (was .req) (stateAt (now (m .entry))) ticks) .beyond ⌝ }
     ensures { λ _. ⌜ now (m .exit) ≡ imageOf (appliedFrom (edgesFrom (was .rst) (was .req) (stateAt (now (m .entry))) ticks) (was .mismatched) (stateAt (now (m .entry)))) ⌝ }
@@ -81,7 +84,7 @@ fn all_in(m: &mut [u8; 196], was: Before, ticks: u32) -> bool
 }
 
 // B on an image: the edges found and applied, the frequent ones by themselves; whether a REQ went beyond the limit.
-fn edges_in(m: &mut [u8; 196], was: Before, ticks: u32) -> bool
+fn edges_in(m: &mut Image, was: Before, ticks: u32) -> bool
     requires { ⌜ IsImage (now m) ⌝ }
     ensures { λ b. ⌜ b ≡ (edgesFrom (was .rst) (was .req) (stateAt (now (m .entry))) ticks) .beyond ⌝ }
     ensures { λ _. ⌜ now (m .exit) ≡ imageOf (appliedFrom (edgesFrom (was .rst) (was .req) (stateAt (now (m .entry))) ticks) (was .mismatched) (stateAt (now (m .entry)))) ⌝ }
@@ -90,13 +93,13 @@ fn edges_in(m: &mut [u8; 196], was: Before, ticks: u32) -> bool
         return all_in(m, was, ticks);
     }
     let quiet = found::quiet_after(m, false, ticks);
-    if (8 <= quiet) & !(8 <= m[20]) {
+    if (8 <= quiet) & !(8 <= m[QUIET]) {
         return all_in(m, was, ticks);
     }
     if found::checked_bad(m, was.req) {
         return all_in(m, was, ticks);
     }
-    m[20] = quiet;
+    m[QUIET] = quiet;
     single::phase_in(m, was.mismatched);
     single::req_in(m, was.req)
 }

@@ -6,20 +6,28 @@ ghost use lib.ListN.{getD};
 ghost use Rattle.image.specs.Image.{imageOf, stateAt, IsImage};
 ghost use Rattle.edges.specs.From.{edgesFrom, appliedFrom};
 ghost use Rattle.edges.specs.Since.{seenOf, rstOf, reqOf, mismatchedOf};
+ghost use Rattle.image.specs.Layout.{controlPlace, scsiseqPlace, scsisigPlace, upperPlace};
 use crate::edges_in;
 use crate::found::busy;
 use crate::last::Before;
 use crate::last::Seen;
 use crate::last_seen;
+use image::layout::Image;
+use image::layout::LINES_CONTROL;
+use image::layout::LINES_UPPER;
+use image::layout::QUIET;
+use image::layout::SCSISEQ;
+use image::layout::SCSISIG;
+use image::layout::SIZE;
 
-pub fn seen_in(m: &[u8; 196]) -> Seen
+pub fn seen_in(m: &Image) -> Seen
     ensures { λ x. ⌜ x ≡ seenOf (now (m .entry)) ⌝ }
 {
     Seen {
-        seq: m[0],
-        sig: m[3],
-        upper: m[15],
-        control: m[16],
+        seq: m[SCSISEQ],
+        sig: m[SCSISIG],
+        upper: m[LINES_UPPER],
+        control: m[LINES_CONTROL],
     }
 }
 
@@ -29,29 +37,32 @@ fn before_of(x: Seen) -> Before
     ensures { λ b. ⌜ b .req ≡ reqOf x ⌝ }
     ensures { λ b. ⌜ b .mismatched ≡ mismatchedOf x ⌝ }
 {
-    let mut a = [0u8; 196];
-    a[0] = x.seq;
-    a[3] = x.sig;
-    a[15] = x.upper;
-    a[16] = x.control;
+    let mut a = [0u8; SIZE];
+    a[SCSISEQ] = x.seq;
+    a[SCSISIG] = x.sig;
+    a[LINES_UPPER] = x.upper;
+    a[LINES_CONTROL] = x.control;
     last_seen(&a)
 }
 
-fn is_same(m: &[u8; 196], x: Seen) -> bool
-    ensures { λ b. ⌜ b ≡ (eqb (getD (now (m .entry)) 16 0) (x .control) && eqb (getD (now (m .entry)) 3 0) (x .sig) && eqb (getD (now (m .entry)) 15 0) (x .upper) && eqb (getD (now (m .entry)) 0 0) (x .seq)) ⌝ }
+fn is_same(m: &Image, x: Seen) -> bool
+    ensures { λ b. ⌜ b ≡ (eqb (getD (now (m .entry)) controlPlace 0) (x .control) && eqb (getD (now (m .entry)) scsisigPlace 0) (x .sig) && eqb (getD (now (m .entry)) upperPlace 0) (x .upper) && eqb (getD (now (m .entry)) scsiseqPlace 0) (x .seq)) ⌝ }
 {
-    (m[16] == x.control) & (m[3] == x.sig) & (m[15] == x.upper) & (m[0] == x.seq)
+    (m[LINES_CONTROL] == x.control)
+        & (m[SCSISIG] == x.sig)
+        & (m[LINES_UPPER] == x.upper)
+        & (m[SCSISEQ] == x.seq)
 }
 
 // B on an image; whether a REQ went beyond the limit.
-pub fn edges_since(m: &mut [u8; 196], x: Seen, ticks: u32) -> bool
+pub fn edges_since(m: &mut Image, x: Seen, ticks: u32) -> bool
     requires { ⌜ IsImage (now m) ⌝ }
     ensures { λ b. ⌜ b ≡ (edgesFrom (rstOf x) (reqOf x) (stateAt (now (m .entry))) ticks) .beyond ⌝ }
     ensures { λ _. ⌜ now (m .exit) ≡ imageOf (appliedFrom (edgesFrom (rstOf x) (reqOf x) (stateAt (now (m .entry))) ticks) (mismatchedOf x) (stateAt (now (m .entry)))) ⌝ }
 {
     if is_same(m, x) & (ticks == 0) {
         if busy(m, false) {
-            m[20] = 0;
+            m[QUIET] = 0;
         }
         return false;
     }

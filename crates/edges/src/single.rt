@@ -8,6 +8,7 @@ ghost use Rattle.image.specs.Image.{imageOf, stateAt, linesAt};
 ghost use Rattle.edges.specs.From.{synchronousReqFrom};
 ghost use Rattle.edges.specs.Frequent.{raisedB, phaseB, inboundB, callB, risenB, reqB};
 ghost use Rattle.edges.specs.Stored.{statusStored};
+ghost use Rattle.image.specs.Layout.{scsiCountPlace};
 use crate::after::byte_stored;
 use crate::found::beyond_limit;
 use crate::found::synchronous_req;
@@ -15,21 +16,28 @@ use image::bus::mismatched;
 use image::bus::rst_seen;
 use image::bytes::status_byte;
 use image::bytes::status_of;
+use image::layout::ACK;
+use image::layout::Image;
+use image::layout::LINES_CONTROL;
+use image::layout::LINES_DATA;
+use image::layout::OFFSET;
+use image::layout::SCSI_COUNT;
+use image::layout::STATUS;
 
 // PHASECHG, REQINIT and SYNCERR set, the rest of the status as it was.
-fn raised_in(m: &mut [u8; 196], phase: bool, req: bool, late: bool)
+fn raised_in(m: &mut Image, phase: bool, req: bool, late: bool)
     ensures { λ _. ⌜ now (m .exit) ≡ statusStored (raisedB phase req late) (now (m .entry)) ⌝ }
 {
-    let mut t = status_of(m[12]);
+    let mut t = status_of(m[STATUS]);
     t.phasechg = phase | t.phasechg;
     t.reqinit = req | t.reqinit;
     t.syncerr = late | t.syncerr;
     let v = status_byte(t);
-    m[12] = v;
+    m[STATUS] = v;
 }
 
 // "PHASECHG is set when "connected and not matched" is true here and was false"
-pub fn phase_in(m: &mut [u8; 196], was: bool)
+pub fn phase_in(m: &mut Image, was: bool)
     requires { ⌜ now m ≡ imageOf (stateAt (now m)) ⌝ }
     ensures { λ _. ⌜ now (m .exit) ≡ imageOf (phaseB was (stateAt (now (m .entry)))) ⌝ }
 {
@@ -42,16 +50,16 @@ pub fn phase_in(m: &mut [u8; 196], was: bool)
 }
 
 // An inbound byte, SYNCERR where it is late: while IO is seen the chip drives no data, so it is the byte of others.
-fn inbound_in(m: &mut [u8; 196])
+fn inbound_in(m: &mut Image)
     requires { ⌜ now m ≡ imageOf (stateAt (now m)) ⌝ }
-    requires { ⌜ ((linesAt (now m)) .io ≡ true → getD (now m) 23 0 < 8) ⌝ }
+    requires { ⌜ ((linesAt (now m)) .io ≡ true → getD (now m) scsiCountPlace 0 < 8) ⌝ }
     ensures { λ _. ⌜ now (m .exit) ≡ imageOf (inboundB true (stateAt (now (m .entry)))) ⌝ }
 {
-    if !((m[16] >> 6) % 2 == 1) {
+    if !((m[LINES_CONTROL] >> 6) % 2 == 1) {
         return;
     }
-    let late = (m[17] == 0) & (0 < m[23]);
-    let byte = m[14];
+    let late = (m[OFFSET] == 0) & (0 < m[SCSI_COUNT]);
+    let byte = m[LINES_DATA];
     byte_stored(m, byte);
     if late {
         raised_in(m, false, false, true);
@@ -59,7 +67,7 @@ fn inbound_in(m: &mut [u8; 196])
 }
 
 // A REQ that rose: a synchronous one is counted, or is beyond the limit.
-fn risen(m: &mut [u8; 196]) -> bool
+fn risen(m: &mut Image) -> bool
     requires { ⌜ now m ≡ imageOf (stateAt (now m)) ⌝ }
     ensures { λ b. ⌜ b ≡ (callB (stateAt (now (m .entry))) && beyondLimit (stateAt (now (m .entry)))) ⌝ }
     ensures { λ _. ⌜ now (m .exit) ≡ imageOf (risenB (callB (stateAt (now (m .entry)))) (stateAt (now (m .entry)))) ⌝ }
@@ -70,24 +78,24 @@ fn risen(m: &mut [u8; 196]) -> bool
     if beyond_limit(m, true) {
         return true;
     }
-    let offset = m[17];
+    let offset = m[OFFSET];
     inbound_in(m);
-    m[17] = offset + 1;
+    m[OFFSET] = offset + 1;
     false
 }
 
 // REQ as it was seen last and is seen now; whether it went beyond the limit.
-pub fn req_in(m: &mut [u8; 196], was: bool) -> bool
+pub fn req_in(m: &mut Image, was: bool) -> bool
     requires { ⌜ now m ≡ imageOf (stateAt (now m)) ⌝ }
     ensures { λ b. ⌜ b ≡ (synchronousReqFrom was (stateAt (now (m .entry))) && beyondLimit (stateAt (now (m .entry)))) ⌝ }
     ensures { λ _. ⌜ now (m .exit) ≡ imageOf (reqB was (stateAt (now (m .entry)))) ⌝ }
 {
-    let req = (m[16] >> 1) % 2 == 1;
+    let req = (m[LINES_CONTROL] >> 1) % 2 == 1;
     if req == was {
         return false;
     }
     if !req {
-        m[18] = 0;
+        m[ACK] = 0;
         return false;
     }
     if rst_seen(m) {

@@ -6,6 +6,7 @@ ghost use Rattle.image.specs.Image.{IsImage, stateAt};
 ghost use Rattle.effects.specs.Acting.{Acts};
 use crate::Acted;
 use crate::done_with;
+use image::layout::Image;
 use interrupts::latches::latches_written_in;
 use interrupts::status::status_kept_in;
 use interrupts::status::status_written_in;
@@ -13,7 +14,7 @@ use rules::map::Register;
 use writes::storing::stored;
 
 // "A write to 34Bh clears latches only"
-pub fn ready_cleared(m: &mut [u8; 196], value: u8) -> Acted
+pub fn ready_cleared(m: &mut Image, value: u8) -> Acted
     requires { ⌜ IsImage (now m) ⌝ }
     ensures { λ r. ⌜ Acts (stateAt (now (m .entry))) (Write (offsetOf CLRSINT0) value) (now (m .exit)) r ⌝ }
 {
@@ -23,7 +24,7 @@ pub fn ready_cleared(m: &mut [u8; 196], value: u8) -> Acted
 }
 
 // "A write to 34Ch clears the named status bits and latches; bit 6 clears ATN."
-pub fn interrupts_cleared(m: &mut [u8; 196], value: u8) -> Acted
+pub fn interrupts_cleared(m: &mut Image, value: u8) -> Acted
     requires { ⌜ IsImage (now m) ⌝ }
     ensures { λ r. ⌜ Acts (stateAt (now (m .entry))) (Write (offsetOf CLRSINT1) value) (now (m .exit)) r ⌝ }
 {
@@ -34,7 +35,7 @@ pub fn interrupts_cleared(m: &mut [u8; 196], value: u8) -> Acted
 }
 
 // "34Fh clears errors."
-pub fn errors_cleared(m: &mut [u8; 196], value: u8) -> Acted
+pub fn errors_cleared(m: &mut Image, value: u8) -> Acted
     requires { ⌜ IsImage (now m) ⌝ }
     ensures { λ r. ⌜ Acts (stateAt (now (m .entry))) (Write (offsetOf CLRSERR) value) (now (m .exit)) r ⌝ }
 {

@@ -8,20 +8,24 @@ ghost use Rattle.image.specs.Image.{IsImage, imageOf, stateAt};
 ghost use Rattle.effects.specs.Acting.{Acts};
 use crate::Acted;
 use crate::done_with;
+use image::layout::Image;
+use image::layout::LINES_CONTROL;
+use image::layout::LINES_DATA;
+use image::layout::LINES_UPPER;
 use interrupts::status::status_kept_in;
 
 // Data from bit 17 on, then parity and RST, then the lines in the order of 343h.
-fn lines_put(m: &mut [u8; 196], high: u8, middle: u8, low: u8)
+fn lines_put(m: &mut Image, high: u8, middle: u8, low: u8)
     requires { ⌜ IsImage (now m) ⌝ }
     ensures { λ _. ⌜ now (m .exit) ≡ imageOf (withLines (linesOf (payloadOf high middle low)) (stateAt (now (m .entry)))) ⌝ }
 {
-    m[14] = high % 4 * 64 + middle / 4;
-    m[15] = middle % 4;
-    m[16] = low;
+    m[LINES_DATA] = high % 4 * 64 + middle / 4;
+    m[LINES_UPPER] = middle % 4;
+    m[LINES_CONTROL] = low;
 }
 
 // The three bytes after the kind.
-pub fn drive_in(m: &mut [u8; 196], high: u8, middle: u8, low: u8) -> Acted
+pub fn drive_in(m: &mut Image, high: u8, middle: u8, low: u8) -> Acted
     requires { ⌜ IsImage (now m) ⌝ }
     ensures { λ r. ⌜ Acts (stateAt (now (m .entry))) (Drive (linesOf (payloadOf high middle low))) (now (m .exit)) r ⌝ }
 {
@@ -31,7 +35,7 @@ pub fn drive_in(m: &mut [u8; 196], high: u8, middle: u8, low: u8) -> Acted
 }
 
 // Ticks: B counts them.
-pub fn ticked(m: &mut [u8; 196], n: u32) -> Acted
+pub fn ticked(m: &mut Image, n: u32) -> Acted
     requires { ⌜ IsImage (now m) ⌝ }
     requires { ⌜ n < 16777216 ⌝ }
     ensures { λ r. ⌜ Acts (stateAt (now (m .entry))) (Ticks n) (now (m .exit)) r ⌝ }

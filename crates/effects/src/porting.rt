@@ -9,18 +9,22 @@ ghost use Rattle.effects.specs.CodeBy.{shutTo};
 use crate::Acted;
 use crate::done_with;
 use crate::refused_as;
-use interrupts::status::status_kept_in;
-use reads::values::oldest_word;
 use datapath::host::host_popped;
 use datapath::host::host_pushed;
 use datapath::host::word_pushed;
+use image::layout::DMACNTRL0;
+use image::layout::HOST_BYTES;
+use image::layout::HOST_COUNT;
+use image::layout::Image;
+use interrupts::status::status_kept_in;
+use reads::values::oldest_word;
 use rules::codes::Code;
 
 // "data port shut: ENDMA 0, DMA/PIO 1, width or direction wrong"
-fn shut_to(m: &[u8; 196], wide: bool, read: bool) -> bool
+fn shut_to(m: &Image, wide: bool, read: bool) -> bool
     ensures { λ b. ⌜ b ≡ shutTo ((stateAt (now (m .entry))) .registers .dmacntrl0) wide read ⌝ }
 {
-    let d = m[9];
+    let d = m[DMACNTRL0];
     !((d >> 7) % 2 == 1)
         | ((d >> 5) % 2 == 1)
         | (((d >> 6) % 2 == 1) == wide)
@@ -28,14 +32,14 @@ fn shut_to(m: &[u8; 196], wide: bool, read: bool) -> bool
 }
 
 // A byte goes behind.
-pub fn byte_written(m: &mut [u8; 196], value: u8) -> Acted
+pub fn byte_written(m: &mut Image, value: u8) -> Acted
     requires { ⌜ IsImage (now m) ⌝ }
     ensures { λ r. ⌜ Acts (stateAt (now (m .entry))) (Write (offsetOf DMADATA) value) (now (m .exit)) r ⌝ }
 {
     if shut_to(m, false, false) {
         return refused_as(Code::Shut, 0);
     }
-    if m[24] >= 128 {
+    if m[HOST_COUNT] >= 128 {
         return refused_as(Code::NoRoom, 0);
     }
     host_pushed(m, value);
@@ -44,31 +48,31 @@ pub fn byte_written(m: &mut [u8; 196], value: u8) -> Acted
 }
 
 // The oldest byte is given and taken off.
-pub fn byte_read(m: &mut [u8; 196]) -> Acted
+pub fn byte_read(m: &mut Image) -> Acted
     requires { ⌜ IsImage (now m) ⌝ }
     ensures { λ r. ⌜ Acts (stateAt (now (m .entry))) (Read 0x16) (now (m .exit)) r ⌝ }
 {
     if shut_to(m, false, true) {
         return refused_as(Code::Shut, 0xFF);
     }
-    if m[24] < 1 {
+    if m[HOST_COUNT] < 1 {
         return refused_as(Code::NoBytes, 0xFF);
     }
-    let value = m[68];
+    let value = m[HOST_BYTES];
     host_popped(m, 1);
     status_kept_in(m, false, false);
     done_with(value as u16, 0)
 }
 
 // "A word's low byte comes first."
-pub fn word_written(m: &mut [u8; 196], word: u16) -> Acted
+pub fn word_written(m: &mut Image, word: u16) -> Acted
     requires { ⌜ IsImage (now m) ⌝ }
     ensures { λ r. ⌜ Acts (stateAt (now (m .entry))) (WordWrite word) (now (m .exit)) r ⌝ }
 {
     if shut_to(m, true, false) {
         return refused_as(Code::Shut, 0);
     }
-    if m[24] >= 127 {
+    if m[HOST_COUNT] >= 127 {
         return refused_as(Code::NoRoom, 0);
     }
     word_pushed(m, word);
@@ -77,14 +81,14 @@ pub fn word_written(m: &mut [u8; 196], word: u16) -> Acted
 }
 
 // The two oldest bytes are given and taken off.
-pub fn word_read(m: &mut [u8; 196]) -> Acted
+pub fn word_read(m: &mut Image) -> Acted
     requires { ⌜ IsImage (now m) ⌝ }
     ensures { λ r. ⌜ Acts (stateAt (now (m .entry))) WordRead (now (m .exit)) r ⌝ }
 {
     if shut_to(m, true, true) {
         return refused_as(Code::Shut, 0xFFFF);
     }
-    if m[24] < 2 {
+    if m[HOST_COUNT] < 2 {
         return refused_as(Code::NoBytes, 0xFFFF);
     }
     let value = oldest_word(m);

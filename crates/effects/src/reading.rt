@@ -14,11 +14,12 @@ use crate::done_with;
 use crate::porting::byte_read;
 use crate::refused_as;
 use crate::scsidat::latch_read;
+use image::layout::Image;
 use interrupts::status::status_kept_in;
+use map::register_at;
 use reads::status::id_byte;
 use reads::status::stack_byte;
 use reads::values::read_register;
-use map::register_at;
 use rules::codes::Code;
 use rules::map::Mapped;
 use rules::map::Register;
@@ -26,7 +27,7 @@ use writes::identity_turned;
 use writes::stacking::popped;
 
 // "35Dh uses the place the pointer names, then the pointer goes up one"
-fn stack_read(m: &mut [u8; 196]) -> Acted
+fn stack_read(m: &mut Image) -> Acted
     requires { ⌜ IsImage (now m) ⌝ }
     ensures { λ r. ⌜ Acts (stateAt (now (m .entry))) (Read 0x1D) (now (m .exit)) r ⌝ }
 {
@@ -37,7 +38,7 @@ fn stack_read(m: &mut [u8; 196]) -> Acted
 }
 
 // "35Fh gives the 32 ID bytes in turn and starts again"
-fn identity_read(m: &mut [u8; 196]) -> Acted
+fn identity_read(m: &mut Image) -> Acted
     requires { ⌜ IsImage (now m) ⌝ }
     ensures { λ r. ⌜ Acts (stateAt (now (m .entry))) (Read 0x1F) (now (m .exit)) r ⌝ }
 {
@@ -48,7 +49,7 @@ fn identity_read(m: &mut [u8; 196]) -> Acted
 }
 
 // The value, and "While ENSPCHK is 0, SCSIPERR is held at 0".
-fn plain_read(m: &mut [u8; 196], register: Register) -> Acted
+fn plain_read(m: &mut Image, register: Register) -> Acted
     requires { ⌜ IsImage (now m) ⌝ }
     ensures { λ _. ⌜ now (m .exit) ≡ imageOf (withStatus (statusA false false ((stateAt (now (m .entry))) .registers .sxfrctl1 .enspchk) ((stateAt (now (m .entry))) .status) WordRead) (stateAt (now (m .entry)))) ⌝ }
     ensures { λ r. ⌜ r ≡ doneWith (readOf (stateAt (now (m .entry))) register) 0 ⌝ }
@@ -59,7 +60,7 @@ fn plain_read(m: &mut [u8; 196], register: Register) -> Acted
 }
 
 // Four registers change at a read; any other only gives its value.
-fn read_found(m: &mut [u8; 196], register: Register) -> Acted
+fn read_found(m: &mut Image, register: Register) -> Acted
     requires { ⌜ IsImage (now m) ⌝ }
     requires { ⌜ readAt (offsetOf register) ≡ Present register ⌝ }
     ensures { λ r. ⌜ Acts (stateAt (now (m .entry))) (Read (offsetOf register)) (now (m .exit)) r ⌝ }
@@ -74,7 +75,7 @@ fn read_found(m: &mut [u8; 196], register: Register) -> Acted
 }
 
 // A register read: one look at the map tells what it does.
-pub fn read_in(m: &mut [u8; 196], offset: u8) -> Acted
+pub fn read_in(m: &mut Image, offset: u8) -> Acted
     requires { ⌜ IsImage (now m) ⌝ }
     ensures { λ r. ⌜ Acts (stateAt (now (m .entry))) (Read offset) (now (m .exit)) r ⌝ }
 {

@@ -10,27 +10,30 @@ ghost use Rattle.effects.specs.Acting.{Acts};
 ghost use Rattle.effects.specs.Writes.{ackCounted};
 use crate::Acted;
 use crate::done_with;
-use interrupts::status::status_kept_in;
+use datapath::counts::acknowledged;
 use image::bus::automatic;
 use image::bus::data_seen;
 use image::bus::matched;
-use datapath::counts::acknowledged;
+use image::layout::Image;
+use image::layout::LINES_CONTROL;
+use image::layout::STATUS;
+use interrupts::status::status_kept_in;
 use rules::map::Register;
 use writes::storing::stored;
 
 // "if Automatic, matched and REQ is seen"
-fn automatic_ack(m: &[u8; 196], accessed: bool) -> bool
+fn automatic_ack(m: &Image, accessed: bool) -> bool
     ensures { λ b. ⌜ b ≡ (accessed && automatic (registersAt (now (m .entry))) && matched (stateAt (now (m .entry))) && reqSeen (stateAt (now (m .entry)))) ⌝ }
 {
     if accessed {
-        automatic(m) & matched(m) & ((m[16] >> 1) % 2 == 1)
+        automatic(m) & matched(m) & ((m[LINES_CONTROL] >> 1) % 2 == 1)
     } else {
         false
     }
 }
 
 // An Automatic ACK "turns automatic ACK on, adds one to the counter".
-fn ack_by(m: &mut [u8; 196], acked: bool)
+fn ack_by(m: &mut Image, acked: bool)
     requires { ⌜ IsImage (now m) ⌝ }
     ensures { λ _. ⌜ now (m .exit) ≡ imageOf (ackCounted acked (stateAt (now (m .entry)))) ⌝ }
 {
@@ -40,11 +43,11 @@ fn ack_by(m: &mut [u8; 196], acked: bool)
 }
 
 // "A write to 346h fills the latch."; with SPIORDY and IO not seen it is an access, which may be acknowledged.
-pub fn latch_filled(m: &mut [u8; 196], value: u8) -> Acted
+pub fn latch_filled(m: &mut Image, value: u8) -> Acted
     requires { ⌜ IsImage (now m) ⌝ }
     ensures { λ r. ⌜ Acts (stateAt (now (m .entry))) (Write (offsetOf SCSIDAT) value) (now (m .exit)) r ⌝ }
 {
-    let accessed = !((m[16] >> 6) % 2 == 1) & ((m[12] >> 7) % 2 == 1);
+    let accessed = !((m[LINES_CONTROL] >> 6) % 2 == 1) & ((m[STATUS] >> 7) % 2 == 1);
     let acked = automatic_ack(m, accessed);
     ack_by(m, acked);
     stored(m, Register::SCSIDAT, value);
@@ -53,11 +56,11 @@ pub fn latch_filled(m: &mut [u8; 196], value: u8) -> Acted
 }
 
 // "An access to 346h (a write with IO not seen, a read with IO seen) with SPIORDY clears it"
-pub fn latch_read(m: &mut [u8; 196]) -> Acted
+pub fn latch_read(m: &mut Image) -> Acted
     requires { ⌜ IsImage (now m) ⌝ }
     ensures { λ r. ⌜ Acts (stateAt (now (m .entry))) (Read 0x06) (now (m .exit)) r ⌝ }
 {
-    let accessed = ((m[16] >> 6) % 2 == 1) & ((m[12] >> 7) % 2 == 1);
+    let accessed = ((m[LINES_CONTROL] >> 6) % 2 == 1) & ((m[STATUS] >> 7) % 2 == 1);
     let acked = automatic_ack(m, accessed);
     let value = data_seen(m) as u16;
     ack_by(m, acked);

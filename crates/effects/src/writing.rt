@@ -15,13 +15,14 @@ use crate::done_with;
 use crate::porting::byte_written;
 use crate::refused_as;
 use crate::scsidat::latch_filled;
-use interrupts::status::status_kept_in;
 use datapath::counts::counter_zeroed;
 use datapath::counts::high_written;
 use datapath::counts::low_written;
 use datapath::counts::middle_written;
 use datapath::host::host_emptied;
 use datapath::scsi::channel_cleared;
+use image::layout::Image;
+use interrupts::status::status_kept_in;
 use rules::codes::Code;
 use rules::map::Mapped;
 use rules::map::Register;
@@ -30,7 +31,7 @@ use writes::stacking::pushed;
 use writes::storing::stored;
 
 // A register that is only stored.
-fn plain_written(m: &mut [u8; 196], register: Register, value: u8) -> Acted
+fn plain_written(m: &mut Image, register: Register, value: u8) -> Acted
     requires { ⌜ IsImage (now m) ⌝ }
     requires { ⌜ Plain register ⌝ }
     ensures { λ r. ⌜ Acts (stateAt (now (m .entry))) (Write (offsetOf register) value) (now (m .exit)) r ⌝ }
@@ -41,7 +42,7 @@ fn plain_written(m: &mut [u8; 196], register: Register, value: u8) -> Acted
 }
 
 // 348h: "The counter writes as 24 bits, 348h lowest".
-fn low_counter(m: &mut [u8; 196], value: u8) -> Acted
+fn low_counter(m: &mut Image, value: u8) -> Acted
     requires { ⌜ IsImage (now m) ⌝ }
     ensures { λ r. ⌜ Acts (stateAt (now (m .entry))) (Write (offsetOf STCNT0) value) (now (m .exit)) r ⌝ }
 {
@@ -51,7 +52,7 @@ fn low_counter(m: &mut [u8; 196], value: u8) -> Acted
 }
 
 // 349h, the middle byte.
-fn middle_counter(m: &mut [u8; 196], value: u8) -> Acted
+fn middle_counter(m: &mut Image, value: u8) -> Acted
     requires { ⌜ IsImage (now m) ⌝ }
     ensures { λ r. ⌜ Acts (stateAt (now (m .entry))) (Write (offsetOf STCNT1) value) (now (m .exit)) r ⌝ }
 {
@@ -61,7 +62,7 @@ fn middle_counter(m: &mut [u8; 196], value: u8) -> Acted
 }
 
 // 34Ah, the highest.
-fn high_counter(m: &mut [u8; 196], value: u8) -> Acted
+fn high_counter(m: &mut Image, value: u8) -> Acted
     requires { ⌜ IsImage (now m) ⌝ }
     ensures { λ r. ⌜ Acts (stateAt (now (m .entry))) (Write (offsetOf STCNT2) value) (now (m .exit)) r ⌝ }
 {
@@ -71,7 +72,7 @@ fn high_counter(m: &mut [u8; 196], value: u8) -> Acted
 }
 
 // "CLRCH empties the SCSI FIFO and zeroes the offset"
-fn channel_by(m: &mut [u8; 196], value: u8)
+fn channel_by(m: &mut Image, value: u8)
     requires { ⌜ IsImage (now m) ⌝ }
     ensures { λ _. ⌜ now (m .exit) ≡ imageOf (channelCleared (stateAt (now (m .entry))) value) ⌝ }
 {
@@ -82,7 +83,7 @@ fn channel_by(m: &mut [u8; 196], value: u8)
 }
 
 // "CLRSTCNT zeroes the counter"
-fn counter_by(m: &mut [u8; 196], value: u8)
+fn counter_by(m: &mut Image, value: u8)
     requires { ⌜ IsImage (now m) ⌝ }
     ensures { λ _. ⌜ now (m .exit) ≡ imageOf (counterCleared (stateAt (now (m .entry))) value) ⌝ }
 {
@@ -93,7 +94,7 @@ fn counter_by(m: &mut [u8; 196], value: u8)
 }
 
 // 341h: the bits that clear, then what is stored.
-fn transfer_control(m: &mut [u8; 196], value: u8) -> Acted
+fn transfer_control(m: &mut Image, value: u8) -> Acted
     requires { ⌜ IsImage (now m) ⌝ }
     ensures { λ r. ⌜ Acts (stateAt (now (m .entry))) (Write (offsetOf SXFRCTL0) value) (now (m .exit)) r ⌝ }
 {
@@ -105,7 +106,7 @@ fn transfer_control(m: &mut [u8; 196], value: u8) -> Acted
 }
 
 // "RSTFIFO empties the host FIFO"
-fn host_by(m: &mut [u8; 196], value: u8)
+fn host_by(m: &mut Image, value: u8)
     requires { ⌜ IsImage (now m) ⌝ }
     ensures { λ _. ⌜ now (m .exit) ≡ imageOf (hostCleared (stateAt (now (m .entry))) value) ⌝ }
 {
@@ -116,7 +117,7 @@ fn host_by(m: &mut [u8; 196], value: u8)
 }
 
 // 352h: the bit that clears, then what is stored.
-fn dma_control(m: &mut [u8; 196], value: u8) -> Acted
+fn dma_control(m: &mut Image, value: u8) -> Acted
     requires { ⌜ IsImage (now m) ⌝ }
     ensures { λ r. ⌜ Acts (stateAt (now (m .entry))) (Write (offsetOf DMACNTRL0) value) (now (m .exit)) r ⌝ }
 {
@@ -127,7 +128,7 @@ fn dma_control(m: &mut [u8; 196], value: u8) -> Acted
 }
 
 // 353h: "PWRDWN 7, ENSTK32 6, pointer 4-0." The pointer stands with the stack.
-fn stack_control(m: &mut [u8; 196], value: u8) -> Acted
+fn stack_control(m: &mut Image, value: u8) -> Acted
     requires { ⌜ IsImage (now m) ⌝ }
     ensures { λ r. ⌜ Acts (stateAt (now (m .entry))) (Write (offsetOf DMACNTRL1) value) (now (m .exit)) r ⌝ }
 {
@@ -138,7 +139,7 @@ fn stack_control(m: &mut [u8; 196], value: u8) -> Acted
 }
 
 // 35Dh: "uses the place the pointer names, then the pointer goes up one".
-fn stack_pushed(m: &mut [u8; 196], value: u8) -> Acted
+fn stack_pushed(m: &mut Image, value: u8) -> Acted
     requires { ⌜ IsImage (now m) ⌝ }
     ensures { λ r. ⌜ Acts (stateAt (now (m .entry))) (Write (offsetOf STACK) value) (now (m .exit)) r ⌝ }
 {
@@ -148,7 +149,7 @@ fn stack_pushed(m: &mut [u8; 196], value: u8) -> Acted
 }
 
 // 34Eh and 35Eh take 0 only.
-fn test_written(m: &mut [u8; 196], value: u8) -> Acted
+fn test_written(m: &mut Image, value: u8) -> Acted
     requires { ⌜ IsImage (now m) ⌝ }
     ensures { λ r. ⌜ (Acts (stateAt (now (m .entry))) (Write (offsetOf SCSITEST) value) (now (m .exit)) r) × (Acts (stateAt (now (m .entry))) (Write (offsetOf TEST) value) (now (m .exit)) r) ⌝ }
 {
@@ -160,7 +161,7 @@ fn test_written(m: &mut [u8; 196], value: u8) -> Acted
 }
 
 // What a write finds: one arm for each register that can be written.
-fn write_found(m: &mut [u8; 196], register: Register, value: u8) -> Acted
+fn write_found(m: &mut Image, register: Register, value: u8) -> Acted
     requires { ⌜ IsImage (now m) ⌝ }
     requires { ⌜ Written register ⌝ }
     ensures { λ r. ⌜ Acts (stateAt (now (m .entry))) (Write (offsetOf register) value) (now (m .exit)) r ⌝ }
@@ -193,7 +194,7 @@ fn write_found(m: &mut [u8; 196], register: Register, value: u8) -> Acted
 }
 
 // A register write, by what stands at its offset.
-pub fn write_in(m: &mut [u8; 196], offset: u8, value: u8) -> Acted
+pub fn write_in(m: &mut Image, offset: u8, value: u8) -> Acted
     requires { ⌜ IsImage (now m) ⌝ }
     ensures { λ r. ⌜ Acts (stateAt (now (m .entry))) (Write offset value) (now (m .exit)) r ⌝ }
 {

@@ -10,6 +10,8 @@ use crate::stepping::Outcome;
 use edges::last::Seen;
 use edges::since::edges_since;
 use image::bus::path;
+use image::layout::Image;
+use image::layout::STATUS;
 use rules::codes::Code;
 use settling::settle;
 
@@ -26,7 +28,7 @@ fn code_of(beyond: bool) -> Code
 
 // before0 and before1 are 350h and 351h before the event.
 pub fn finished(
-    m: &mut [u8; 196],
+    m: &mut Image,
     seen: Seen,
     before0: u8,
     before1: u8,
@@ -36,7 +38,7 @@ pub fn finished(
     requires { ⌜ Ready (now m) seen before0 before1 ticks value ⌝ }
     ensures { λ r. ⌜ ((w : Ready (now (m .entry)) seen before0 before1 ticks value) → Leaves (done (w .state) (w .event)) (now (m .exit)) r) ⌝ }
 {
-    let status = m[12];
+    let status = m[STATUS];
     let beyond = edges_since(m, seen, ticks);
     let way = path(m);
     let t = settle(m);

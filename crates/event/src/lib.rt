@@ -1,6 +1,6 @@
 // One event on the chip in the bytes of one array: the checks, then A, B, C and D, each in place.
 mod closing;
-pub mod stepping;
 mod finishing;
 mod opening;
 mod reset;
+pub mod stepping;

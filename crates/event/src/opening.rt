@@ -15,12 +15,13 @@ use effects::porting::word_written;
 use effects::reading::read_in;
 use effects::refused_as;
 use effects::writing::write_in;
+use image::layout::Image;
 use rules::codes::Code;
 use rules::records::Decoded;
 use rules::records::Event;
 
 // Kind 0: "power reset"; its answer is ready.
-fn power_reset_in(m: &mut [u8; 196]) -> Acted
+fn power_reset_in(m: &mut Image) -> Acted
     ensures { λ r. ⌜ Ends powerReset Done 0 (now (m .exit)) r ⌝ }
 {
     reset_in(m);
@@ -28,7 +29,7 @@ fn power_reset_in(m: &mut [u8; 196]) -> Acted
 }
 
 // Each kind by itself; the bits of lines need not be taken apart, since they stand in the record as in the image.
-fn opened_event(m: &mut [u8; 196], e: Event, bytes: &[u8]) -> Acted
+fn opened_event(m: &mut Image, e: Event, bytes: &[u8]) -> Acted
     requires { ⌜ IsImage (now m) ⌝ }
     requires { ⌜ decode (now bytes) ≡ Well e ⌝ }
     ensures { λ r. ⌜ OpensEvent (stateAt (now (m .entry))) e (now (m .exit)) r ⌝ }
@@ -45,7 +46,7 @@ fn opened_event(m: &mut [u8; 196], e: Event, bytes: &[u8]) -> Acted
 }
 
 // "record not 4 bytes or not well formed" is code 1.
-pub fn opened(m: &mut [u8; 196], bytes: &[u8]) -> Acted
+pub fn opened(m: &mut Image, bytes: &[u8]) -> Acted
     requires { ⌜ IsImage (now m) ⌝ }
     ensures { λ r. ⌜ Opens (stateAt (now (m .entry))) (decode (now (bytes .entry))) (now (m .exit)) r ⌝ }
 {

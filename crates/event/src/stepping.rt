@@ -7,6 +7,9 @@ ghost use Rattle.event.specs.Given.{Leaves, Gives, endedAs};
 use crate::finishing::finished;
 use crate::opening::opened;
 use edges::since::seen_in;
+use image::layout::Image;
+use image::layout::SIMODE0;
+use image::layout::SIMODE1;
 use reads::answers::answer_of;
 use rules::codes::Code;
 
@@ -40,13 +43,13 @@ fn ended(code: Code, value: u16) -> Outcome
 }
 
 // A record on an image.
-pub fn outcome_of(m: &mut [u8; 196], bytes: &[u8]) -> Outcome
+pub fn outcome_of(m: &mut Image, bytes: &[u8]) -> Outcome
     requires { ⌜ IsImage (now m) ⌝ }
     ensures { λ r. ⌜ Leaves (step (stateAt (now (m .entry))) (now (bytes .entry))) (now (m .exit)) r ⌝ }
 {
     let seen = seen_in(m);
-    let before0 = m[7];
-    let before1 = m[8];
+    let before0 = m[SIMODE0];
+    let before1 = m[SIMODE1];
     let a = opened(m, bytes);
     if a.ends {
         let code = a.code;
@@ -56,7 +59,7 @@ pub fn outcome_of(m: &mut [u8; 196], bytes: &[u8]) -> Outcome
 }
 
 // A record on an image, and its answer.
-pub fn stepped(m: &mut [u8; 196], bytes: &[u8]) -> Reply
+pub fn stepped(m: &mut Image, bytes: &[u8]) -> Reply
     requires { ⌜ IsImage (now m) ⌝ }
     ensures { λ r. ⌜ Gives (step (stateAt (now (m .entry))) (now (bytes .entry))) (now (m .exit)) r ⌝ }
 {

@@ -11,7 +11,8 @@ use borrow.Author.Tests.{eq-eqb, ne-eqb}
 use Rattle.rules.specs.Numbers.{bit, field}
 use Rattle.rules.specs.Seen.{connected, matched, mismatched}
 use Rattle.rules.proofs.Logic.{never, left-true, right-true}
-use Rattle.image.specs.Image.{registersAt, linesAt}
+use Rattle.image.specs.Image.{registersAt, linesAt, stateAt}
+use Rattle.image.specs.Layout.{controlPlace, scsisigPlace}
 
 -- two digits with the same test are the same
 digits : (x y : ℕ) → x < 2 → y < 2 → Bool·beq (eqb x 1) (eqb y 1) ≡ true → x ≡ y
@@ -80,11 +81,11 @@ not-both false false = refl
 
 module _ (m : List ℕ) where
   abbrev pub phase : Bool
-  phase = eqb (field (getD m 16 0) 5 3) (field (getD m 3 0) 5 3)
+  phase = eqb (field (getD m controlPlace 0) 5 3) (field (getD m scsisigPlace 0) 5 3)
 
   pub matched-by : matched (stateAt m) ≡ (phase && connected (stateAt m))
-  unfolding matched
-  matched-by = rw (last-first (connected (stateAt m)), same-phase (getD m 16 0) (getD m 3 0))
+  unfolding matched stateAt
+  matched-by = rw (last-first (connected (stateAt m)), same-phase (getD m controlPlace 0) (getD m scsisigPlace 0))
 
   pub mismatched-by : mismatched (stateAt m) ≡ (not phase && connected (stateAt m))
   unfolding mismatched

@@ -1,4 +1,4 @@
--- The chip's state as 196 bytes in one array, and read back from them.
+-- The chip's state in the bytes of one array, and read back from them.
 use Prim.Native.Nat.{ℕ, _+_, _*_, _%_}
 use mathlib.Core.Bool.{Bool, false}
 use mathlib.Core.Path.{_≡_}
@@ -10,6 +10,7 @@ use Rattle.rules.specs.Counter.{counterByte}
 use Rattle.rules.specs.Registers.{scsiseqOf, scsiseqByte, sxfrctl0Of, sxfrctl0Byte, sxfrctl1Of, sxfrctl1Byte, scsisigOf, scsirateOf, scsiidOf, simode0Of, simode0Byte, simode1Of, simode1Byte, dmacntrl0Of, dmacntrl0Byte, dmacntrl1Of, dmacntrl1Byte}
 use Rattle.rules.specs.State.{State, Transfer}
 use Rattle.rules.specs.Ranges.{InRange, InBytes}
+use Rattle.image.specs.Layout.{ackPlace, brstcntrlPlace, controlPlace, counterHighPlace, counterLowPlace, counterMiddlePlace, dataPlace, dmacntrl0Place, dmacntrl1Place, hostBytesPlace, hostCountPlace, identityPlace, lastPlace, latchesPlace, offsetPlace, pointerPlace, quietPlace, scsiBytesPlace, scsiCountPlace, scsidatPlace, scsiidPlace, scsiratePlace, scsiseqPlace, scsisigPlace, simode0Place, simode1Place, stackBytesPlace, statusPlace, sxfrctl0Place, sxfrctl1Place, upperPlace}
 use Rattle.rules.specs.declared.registers.Scsisig.{Scsisig}
 use Rattle.rules.specs.declared.registers.Scsirate.{Scsirate}
 use Rattle.rules.specs.declared.registers.Scsiid.{Scsiid}
@@ -106,45 +107,45 @@ imageOf s = headOf s ++ padded 8 (s .transfer .scsi) ++ s .stack .bytes ++ padde
 abbrev pub registersAt : List ℕ → Registers
 registersAt m =
     record {
-      scsiseq = scsiseqOf (getD m 0 0);
-      sxfrctl0 = sxfrctl0Of (getD m 1 0);
-      sxfrctl1 = sxfrctl1Of (getD m 2 0);
-      scsisig = scsisigOf false (getD m 3 0);
-      scsirate = scsirateOf (getD m 4 0);
-      scsiid = scsiidOf (getD m 5 0);
-      scsidat = getD m 6 0;
-      simode0 = simode0Of (getD m 7 0);
-      simode1 = simode1Of (getD m 8 0);
-      dmacntrl0 = dmacntrl0Of (getD m 9 0);
-      dmacntrl1 = dmacntrl1Of (getD m 10 0);
-      brstcntrl = getD m 11 0;
+      scsiseq = scsiseqOf (getD m scsiseqPlace 0);
+      sxfrctl0 = sxfrctl0Of (getD m sxfrctl0Place 0);
+      sxfrctl1 = sxfrctl1Of (getD m sxfrctl1Place 0);
+      scsisig = scsisigOf false (getD m scsisigPlace 0);
+      scsirate = scsirateOf (getD m scsiratePlace 0);
+      scsiid = scsiidOf (getD m scsiidPlace 0);
+      scsidat = getD m scsidatPlace 0;
+      simode0 = simode0Of (getD m simode0Place 0);
+      simode1 = simode1Of (getD m simode1Place 0);
+      dmacntrl0 = dmacntrl0Of (getD m dmacntrl0Place 0);
+      dmacntrl1 = dmacntrl1Of (getD m dmacntrl1Place 0);
+      brstcntrl = getD m brstcntrlPlace 0;
     }
 
 abbrev pub linesAt : List ℕ → Lines
 linesAt m =
     record {
-      byte = getD m 14 0;
-      parity = bit (getD m 15 0) 1;
-      rst = bit (getD m 15 0) 0;
-      cd = bit (getD m 16 0) 7;
-      io = bit (getD m 16 0) 6;
-      msg = bit (getD m 16 0) 5;
-      atn = bit (getD m 16 0) 4;
-      sel = bit (getD m 16 0) 3;
-      bsy = bit (getD m 16 0) 2;
-      req = bit (getD m 16 0) 1;
-      ack = bit (getD m 16 0) 0;
+      byte = getD m dataPlace 0;
+      parity = bit (getD m upperPlace 0) 1;
+      rst = bit (getD m upperPlace 0) 0;
+      cd = bit (getD m controlPlace 0) 7;
+      io = bit (getD m controlPlace 0) 6;
+      msg = bit (getD m controlPlace 0) 5;
+      atn = bit (getD m controlPlace 0) 4;
+      sel = bit (getD m controlPlace 0) 3;
+      bsy = bit (getD m controlPlace 0) 2;
+      req = bit (getD m controlPlace 0) 1;
+      ack = bit (getD m controlPlace 0) 0;
     }
 
 abbrev pub transferAt : List ℕ → Transfer
 transferAt m =
     record {
-      host = take (getD m 24 0) (drop 68 m);
-      scsi = take (getD m 23 0) (drop 28 m);
-      counter = getD m 25 0 + 256 * getD m 26 0 + 65536 * getD m 27 0;
-      offset = getD m 17 0;
-      ack = eqb (getD m 18 0) 1;
-      last = getD m 19 0;
+      host = take (getD m hostCountPlace 0) (drop hostBytesPlace m);
+      scsi = take (getD m scsiCountPlace 0) (drop scsiBytesPlace m);
+      counter = getD m counterLowPlace 0 + 256 * getD m counterMiddlePlace 0 + 65536 * getD m counterHighPlace 0;
+      offset = getD m offsetPlace 0;
+      ack = eqb (getD m ackPlace 0) 1;
+      last = getD m lastPlace 0;
     }
 
 -- the state that an image stands for
@@ -154,11 +155,11 @@ stateAt m =
       lines = linesAt m;
       registers = registersAt m;
       transfer = transferAt m;
-      status = statusOf (getD m 12 0);
-      latches = latchesOf (getD m 13 0);
-      stack = record { bytes = take 32 (drop 36 m); pointer = getD m 22 0 };
-      quiet = getD m 20 0;
-      identity = getD m 21 0;
+      status = statusOf (getD m statusPlace 0);
+      latches = latchesOf (getD m latchesPlace 0);
+      stack = record { bytes = take 32 (drop stackBytesPlace m); pointer = getD m pointerPlace 0 };
+      quiet = getD m quietPlace 0;
+      identity = getD m identityPlace 0;
     }
 
 -- an array that is the image of a state in range

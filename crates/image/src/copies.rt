@@ -3,12 +3,14 @@ ghost use mathlib.Core.Path.{_≡_};
 ghost use Prim.Native.Nat.{_+_, _<_, _≤_};
 ghost use lib.ListN.{length, drop, replicate};
 ghost use lib.Seq.{paste};
+ghost use Rattle.image.specs.Layout.{imageSize};
+use crate::layout::Image;
 
 // n bytes copied, the lowest first: those that are read are not yet written over.
-pub fn copied(m: &mut [u8; 196], from: usize, to: usize, n: usize)
-    requires { ⌜ length (now m) ≡ 196 ⌝ }
-    requires { ⌜ from + n ≤ 196 ⌝ }
-    requires { ⌜ to + n ≤ 196 ⌝ }
+pub fn copied(m: &mut Image, from: usize, to: usize, n: usize)
+    requires { ⌜ length (now m) ≡ imageSize ⌝ }
+    requires { ⌜ from + n ≤ imageSize ⌝ }
+    requires { ⌜ to + n ≤ imageSize ⌝ }
     requires { ⌜ (from < to → from + n ≤ to) ⌝ }
     ensures { λ _. ⌜ now (m .exit) ≡ paste (now (m .entry)) to (drop from (now (m .entry))) n ⌝ }
 {
@@ -18,9 +20,9 @@ pub fn copied(m: &mut [u8; 196], from: usize, to: usize, n: usize)
 }
 
 // n bytes set to 0.
-pub fn zeroed(m: &mut [u8; 196], at: usize, n: usize)
-    requires { ⌜ length (now m) ≡ 196 ⌝ }
-    requires { ⌜ at + n ≤ 196 ⌝ }
+pub fn zeroed(m: &mut Image, at: usize, n: usize)
+    requires { ⌜ length (now m) ≡ imageSize ⌝ }
+    requires { ⌜ at + n ≤ imageSize ⌝ }
     ensures { λ _. ⌜ now (m .exit) ≡ paste (now (m .entry)) at (replicate n 0) n ⌝ }
 {
     for i in 0..n {

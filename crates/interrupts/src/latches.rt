@@ -11,6 +11,10 @@ ghost use Rattle.interrupts.specs.Latching.{latchesFrom, anyEnable};
 use image::bytes::latches_byte;
 use image::bytes::latches_of;
 use image::bytes::status_of;
+use image::layout::Image;
+use image::layout::LATCHES;
+use image::layout::SIMODE0;
+use image::layout::SIMODE1;
 use registers::bytes::simode0_of;
 use registers::bytes::simode1_of;
 use rules::chip::Latches;
@@ -19,11 +23,11 @@ use rules::map::Register;
 use rules::registers::Simode0;
 use rules::registers::Simode1;
 
-fn latches_put(m: &mut [u8; 196], k: Latches)
+fn latches_put(m: &mut Image, k: Latches)
     requires { ⌜ IsImage (now m) ⌝ }
     ensures { λ _. ⌜ now (m .exit) ≡ imageOf (withLatches k (stateAt (now (m .entry)))) ⌝ }
 {
-    m[13] = latches_byte(k);
+    m[LATCHES] = latches_byte(k);
 }
 
 // "A write to 34Ch clears the named status bits and latches"; "34Bh clears latches only".
@@ -43,11 +47,11 @@ fn latches_written(k: Latches, offset: u8, value: u8) -> Latches
 }
 
 // A write of 34Bh or 34Ch.
-pub fn latches_written_in(m: &mut [u8; 196], offset: u8, value: u8)
+pub fn latches_written_in(m: &mut Image, offset: u8, value: u8)
     requires { ⌜ IsImage (now m) ⌝ }
     ensures { λ _. ⌜ now (m .exit) ≡ imageOf (withLatches (latchesA ((stateAt (now (m .entry))) .latches) (Write offset value)) (stateAt (now (m .entry)))) ⌝ }
 {
-    let k = latches_written(latches_of(m[13]), offset, value);
+    let k = latches_written(latches_of(m[LATCHES]), offset, value);
     latches_put(m, k);
 }
 
@@ -115,18 +119,26 @@ fn latches_of_bytes(
 
 // The latches after D: before0 and before1 are 350h and 351h before the event, status the status byte after A, raised what
 // it rose to. None is set where nothing rose, or where no interrupt is enabled.
-pub fn latched_in(m: &mut [u8; 196], before0: u8, before1: u8, status: u8, raised: u8)
+pub fn latched_in(m: &mut Image, before0: u8, before1: u8, status: u8, raised: u8)
     requires { ⌜ IsImage (now m) ⌝ }
     ensures { λ _. ⌜ now (m .exit) ≡ imageOf (withLatches (latchesFrom (simode0Of before0) (simode1Of before1) ((stateAt (now (m .entry))) .registers .simode0) ((stateAt (now (m .entry))) .registers .simode1) (statusOf status) (statusOf raised) ((stateAt (now (m .entry))) .latches)) (stateAt (now (m .entry)))) ⌝ }
 {
-    let enables0 = m[7];
-    let enables1 = m[8];
+    let enables0 = m[SIMODE0];
+    let enables1 = m[SIMODE1];
     if (enables0 == before0) & (enables1 == before1) & (status == raised) {
         return;
     }
     if !any_enable(enables0, enables1) {
         return;
     }
-    let k = latches_of_bytes(before0, before1, enables0, enables1, status, raised, m[13]);
+    let k = latches_of_bytes(
+        before0,
+        before1,
+        enables0,
+        enables1,
+        status,
+        raised,
+        m[LATCHES],
+    );
     latches_put(m, k);
 }

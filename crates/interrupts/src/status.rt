@@ -14,14 +14,20 @@ use image::bus::normal;
 use image::bus::path;
 use image::bytes::status_byte;
 use image::bytes::status_of;
+use image::layout::ACK;
+use image::layout::Image;
+use image::layout::LINES_CONTROL;
+use image::layout::STATUS;
+use image::layout::SXFRCTL0;
+use image::layout::SXFRCTL1;
 use rules::chip::Status;
 use rules::map::Register;
 
-fn status_put(m: &mut [u8; 196], t: Status)
+fn status_put(m: &mut Image, t: Status)
     requires { ⌜ IsImage (now m) ⌝ }
     ensures { λ _. ⌜ now (m .exit) ≡ imageOf (withStatus t (stateAt (now (m .entry)))) ⌝ }
 {
-    m[12] = status_byte(t);
+    m[STATUS] = status_byte(t);
 }
 
 // "A write to 34Ch clears the named status bits and latches"; "34Fh clears errors."
@@ -54,52 +60,52 @@ fn status_kept(accessed: bool, acked: bool, enspchk: bool, t: Status) -> Status
 }
 
 // "While ENSPCHK is 0, SCSIPERR is held at 0": at every event. Most change nothing.
-pub fn status_kept_in(m: &mut [u8; 196], accessed: bool, acked: bool)
+pub fn status_kept_in(m: &mut Image, accessed: bool, acked: bool)
     requires { ⌜ IsImage (now m) ⌝ }
     ensures { λ _. ⌜ now (m .exit) ≡ imageOf (withStatus (statusA accessed acked ((stateAt (now (m .entry))) .registers .sxfrctl1 .enspchk) ((stateAt (now (m .entry))) .status) WordRead) (stateAt (now (m .entry)))) ⌝ }
 {
-    let enspchk = (m[2] >> 5) % 2 == 1;
-    let scsiperr = (m[12] >> 4) % 2 == 1;
+    let enspchk = (m[SXFRCTL1] >> 5) % 2 == 1;
+    let scsiperr = (m[STATUS] >> 4) % 2 == 1;
     if !accessed & !acked & (enspchk | !scsiperr) {
         return;
     }
-    let t = status_kept(accessed, acked, enspchk, status_of(m[12]));
+    let t = status_kept(accessed, acked, enspchk, status_of(m[STATUS]));
     status_put(m, t);
 }
 
 // A write of 34Ch or 34Fh.
-pub fn status_written_in(m: &mut [u8; 196], offset: u8, value: u8)
+pub fn status_written_in(m: &mut Image, offset: u8, value: u8)
     requires { ⌜ IsImage (now m) ⌝ }
     ensures { λ _. ⌜ now (m .exit) ≡ imageOf (withStatus (statusA false false ((stateAt (now (m .entry))) .registers .sxfrctl1 .enspchk) ((stateAt (now (m .entry))) .status) (Write offset value)) (stateAt (now (m .entry)))) ⌝ }
 {
-    let enspchk = (m[2] >> 5) % 2 == 1;
-    let t = status_written(enspchk, status_of(m[12]), offset, value);
+    let enspchk = (m[SXFRCTL1] >> 5) % 2 == 1;
+    let t = status_written(enspchk, status_of(m[STATUS]), offset, value);
     status_put(m, t);
 }
 
 // "Each ACK ... clears REQINIT." "REQINIT also falls when ACK is seen."
-pub fn fallen_in(m: &mut [u8; 196], acks: u8)
+pub fn fallen_in(m: &mut Image, acks: u8)
     requires { ⌜ IsImage (now m) ⌝ }
     ensures { λ _. ⌜ now (m .exit) ≡ imageOf (withStatus (statusD acks (ackSeen (stateAt (now (m .entry)))) ((stateAt (now (m .entry))) .status)) (stateAt (now (m .entry)))) ⌝ }
 {
-    if !((m[12] >> 2) % 2 == 1) {
+    if !((m[STATUS] >> 2) % 2 == 1) {
         return;
     }
     let seen = ack_seen(m);
     if !(0 < acks) & !seen {
         return;
     }
-    let mut t = status_of(m[12]);
+    let mut t = status_of(m[STATUS]);
     t.reqinit = false;
     status_put(m, t);
 }
 
 // "Normal mode with DMAEN, SCSIEN and no path sets FWERR."
-fn fifo_conflict(m: &[u8; 196]) -> bool
+fn fifo_conflict(m: &Image) -> bool
     ensures { λ b. ⌜ b ≡ fifoConflict (registersAt (now (m .entry))) ⌝ }
 {
     if normal(m) {
-        if (m[1] >> 7) % 2 == 1 {
+        if (m[SXFRCTL0] >> 7) % 2 == 1 {
             !path(m)
         } else {
             false
@@ -110,29 +116,29 @@ fn fifo_conflict(m: &[u8; 196]) -> bool
 }
 
 // "Automatic mode, matched, REQ seen, automatic ACK off sets SPIORDY."
-fn pio_ready(m: &[u8; 196]) -> bool
+fn pio_ready(m: &Image) -> bool
     ensures { λ b. ⌜ b ≡ pioReady (stateAt (now (m .entry))) ⌝ }
 {
     if automatic(m) {
-        matched(m) & ((m[16] >> 1) % 2 == 1) & !(m[18] == 1)
+        matched(m) & ((m[LINES_CONTROL] >> 1) % 2 == 1) & !(m[ACK] == 1)
     } else {
         false
     }
 }
 
 // What each status rose to in the event: SPIORDY in Automatic mode, or FWERR in Normal mode.
-pub fn raised_in(m: &mut [u8; 196])
+pub fn raised_in(m: &mut Image)
     requires { ⌜ IsImage (now m) ⌝ }
     ensures { λ _. ⌜ now (m .exit) ≡ imageOf (withStatus (statusRaised (stateAt (now (m .entry)))) (stateAt (now (m .entry)))) ⌝ }
 {
     if pio_ready(m) {
-        let mut t = status_of(m[12]);
+        let mut t = status_of(m[STATUS]);
         t.spiordy = true;
         status_put(m, t);
         return;
     }
     if fifo_conflict(m) {
-        let mut t = status_of(m[12]);
+        let mut t = status_of(m[STATUS]);
         t.fwerr = true;
         status_put(m, t);
     }

@@ -10,6 +10,14 @@ use crate::interrupts::irq;
 use image::bus::ack_driven;
 use image::bus::driving;
 use image::bus::normal;
+use image::layout::HOST_COUNT;
+use image::layout::Image;
+use image::layout::LAST;
+use image::layout::OFFSET;
+use image::layout::SCSI_COUNT;
+use image::layout::SCSIDAT;
+use image::layout::SCSISEQ;
+use image::layout::SCSISIG;
 use laws::byte_of;
 use parity::parity_for;
 use rules::codes::Code;
@@ -17,11 +25,11 @@ use rules::records::Answer;
 use wire::answer_bytes;
 
 // "Undriven data and parity are 0.": whether data is driven is judged once, by the caller.
-fn byte_driven(m: &[u8; 196], driving: bool) -> u8
+fn byte_driven(m: &Image, driving: bool) -> u8
     ensures { λ b. ⌜ b ≡ cond driving (cond (normal (registersAt (now (m .entry)))) ((transferAt (now (m .entry))) .last) ((registersAt (now (m .entry))) .scsidat)) 0 ⌝ }
 {
     if driving {
-        if normal(m) { m[19] } else { m[6] }
+        if normal(m) { m[LAST] } else { m[SCSIDAT] }
     } else {
         0
     }
@@ -35,25 +43,18 @@ fn parity_of(driving: bool, driven: u8) -> bool
 }
 
 // The control lines driven, in the order of 343h: CD, IO, MSG and REQ never are.
-fn control_driven(m: &[u8; 196]) -> u8
+fn control_driven(m: &Image) -> u8
     ensures { λ b. ⌜ b ≡ controlDriven (stateAt (now (m .entry))) ⌝ }
 {
     let acked = ack_driven(m);
-    let atn = (m[3] >> 4) % 2 == 1;
-    let sel = (m[3] >> 3) % 2 == 1;
-    let bsy = (m[3] >> 2) % 2 == 1;
+    let atn = (m[SCSISIG] >> 4) % 2 == 1;
+    let sel = (m[SCSISIG] >> 3) % 2 == 1;
+    let bsy = (m[SCSISIG] >> 2) % 2 == 1;
     byte_of(false, false, false, atn, sel, bsy, false, acked)
 }
 
 // The sixteen bytes of the answer after an event, with what settling reports and the bytes sent.
-pub fn answer_of(
-    m: &[u8; 196],
-    code: Code,
-    value: u16,
-    moves: u8,
-    acks: u8,
-    sent: [u8; 8],
-) -> [u8; 16]
+pub fn answer_of(m: &Image, code: Code, value: u16, moves: u8, acks: u8, sent: [u8; 8]) -> [u8; 16]
     requires { ⌜ IsImage (now m) ⌝ }
     ensures { λ r. ⌜ r ≡ answerBytes (answerWith (stateAt (now (m .entry))) code value moves acks sent) ⌝ }
 {
@@ -62,7 +63,7 @@ pub fn answer_of(
     let driven = byte_driven(m, driving);
     let parity = parity_of(driving, driven);
     let control = control_driven(m);
-    let rst = (m[0] >> 0) % 2 == 1;
+    let rst = (m[SCSISEQ] >> 0) % 2 == 1;
     let a = Answer {
         code: code,
         irq: irq,
@@ -74,9 +75,9 @@ pub fn answer_of(
         value: value,
         control: control,
         driven: driven,
-        offset: m[17],
-        scsi: m[23],
-        host: m[24],
+        offset: m[OFFSET],
+        scsi: m[SCSI_COUNT],
+        host: m[HOST_COUNT],
         sent: sent,
     };
     answer_bytes(a)

@@ -4,42 +4,47 @@ ghost use mathlib.Core.Bool.{_&&_};
 ghost use Rattle.rules.specs.Interrupts.{phasemis, instat, irq, anyLatch};
 ghost use Rattle.image.specs.Image.{stateAt};
 use image::bus::mismatched;
+use image::layout::DMACNTRL0;
+use image::layout::Image;
+use image::layout::LATCHES;
+use image::layout::SIMODE1;
+use image::layout::STATUS;
 
 // "PHASEMIS is live: connected, not matched, REQINIT.": the lines are looked at only where REQINIT is set.
-pub fn phasemis(m: &[u8; 196]) -> bool
+pub fn phasemis(m: &Image) -> bool
     ensures { λ b. ⌜ b ≡ phasemis (stateAt (now (m .entry))) ⌝ }
 {
-    let reqinit = (m[12] >> 2) % 2 == 1;
+    let reqinit = (m[STATUS] >> 2) % 2 == 1;
     if reqinit { mismatched(m) } else { false }
 }
 
 // PHASEMIS "counts while enabled".
-fn enabled_phasemis(m: &[u8; 196]) -> bool
+fn enabled_phasemis(m: &Image) -> bool
     ensures { λ b. ⌜ b ≡ phasemis (stateAt (now (m .entry))) && (stateAt (now (m .entry))) .registers .simode1 .enphasemis ⌝ }
 {
-    let enphasemis = (m[8] >> 4) % 2 == 1;
+    let enphasemis = (m[SIMODE1] >> 4) % 2 == 1;
     if enphasemis { phasemis(m) } else { false }
 }
 
 // The six latches are the low bits of one byte.
-fn any_latch(m: &[u8; 196]) -> bool
+fn any_latch(m: &Image) -> bool
     ensures { λ b. ⌜ b ≡ anyLatch ((stateAt (now (m .entry))) .latches) ⌝ }
 {
-    !(m[13] % 64 == 0)
+    !(m[LATCHES] % 64 == 0)
 }
 
 // "INSTAT is any latch, enabled PHASEMIS, or SWINT."
-pub fn instat(m: &[u8; 196]) -> bool
+pub fn instat(m: &Image) -> bool
     ensures { λ b. ⌜ b ≡ instat (stateAt (now (m .entry))) ⌝ }
 {
-    let at_once = any_latch(m) | ((m[9] >> 0) % 2 == 1);
+    let at_once = any_latch(m) | ((m[DMACNTRL0] >> 0) % 2 == 1);
     if at_once { true } else { enabled_phasemis(m) }
 }
 
 // "IRQ is INSTAT and INTEN.": INSTAT is looked at only where INTEN is set.
-pub fn irq(m: &[u8; 196]) -> bool
+pub fn irq(m: &Image) -> bool
     ensures { λ b. ⌜ b ≡ irq (stateAt (now (m .entry))) ⌝ }
 {
-    let inten = (m[9] >> 2) % 2 == 1;
+    let inten = (m[DMACNTRL0] >> 2) % 2 == 1;
     if inten { instat(m) } else { false }
 }

@@ -10,41 +10,53 @@ use crate::interrupts::phasemis;
 use image::bus::ack_seen;
 use image::bus::bsy_seen;
 use image::bus::sel_seen;
+use image::layout::DMACNTRL0;
+use image::layout::DMACNTRL1;
+use image::layout::HOST_COUNT;
+use image::layout::IDENTITY;
+use image::layout::Image;
+use image::layout::LINES_CONTROL;
+use image::layout::OFFSET;
+use image::layout::POINTER;
+use image::layout::SCSI_COUNT;
+use image::layout::SCSISIG;
+use image::layout::STACK_BYTES;
+use image::layout::STATUS;
 use laws::byte_of;
 
 // 343h: the lines seen.
-pub fn scsisigi(m: &[u8; 196]) -> u8
+pub fn scsisigi(m: &Image) -> u8
     ensures { λ b. ⌜ b ≡ scsisigi (stateAt (now (m .entry))) ⌝ }
 {
     let sel = sel_seen(m);
     let bsy = bsy_seen(m);
     let acked = ack_seen(m);
-    let cd = (m[16] >> 7) % 2 == 1;
-    let io = (m[16] >> 6) % 2 == 1;
-    let msg = (m[16] >> 5) % 2 == 1;
-    let atn = ((m[16] >> 4) % 2 == 1) | ((m[3] >> 4) % 2 == 1);
-    let req = (m[16] >> 1) % 2 == 1;
+    let cd = (m[LINES_CONTROL] >> 7) % 2 == 1;
+    let io = (m[LINES_CONTROL] >> 6) % 2 == 1;
+    let msg = (m[LINES_CONTROL] >> 5) % 2 == 1;
+    let atn = ((m[LINES_CONTROL] >> 4) % 2 == 1) | ((m[SCSISIG] >> 4) % 2 == 1);
+    let req = (m[LINES_CONTROL] >> 1) % 2 == 1;
     byte_of(cd, io, msg, atn, sel, bsy, req, acked)
 }
 
 // 34Bh
-pub fn sstat0(m: &[u8; 196]) -> u8
+pub fn sstat0(m: &Image) -> u8
     ensures { λ b. ⌜ b ≡ sstat0 (stateAt (now (m .entry))) ⌝ }
 {
-    let spiordy = (m[12] >> 7) % 2 == 1;
+    let spiordy = (m[STATUS] >> 7) % 2 == 1;
     byte_of(false, false, false, false, false, false, spiordy, false)
 }
 
 // 34Ch
-pub fn sstat1(m: &[u8; 196]) -> u8
+pub fn sstat1(m: &Image) -> u8
     ensures { λ b. ⌜ b ≡ sstat1 (stateAt (now (m .entry))) ⌝ }
 {
     let phasemis = phasemis(m);
-    let scsirsti = (m[12] >> 6) % 2 == 1;
-    let busfree = (m[12] >> 5) % 2 == 1;
-    let scsiperr = (m[12] >> 4) % 2 == 1;
-    let phasechg = (m[12] >> 3) % 2 == 1;
-    let reqinit = (m[12] >> 2) % 2 == 1;
+    let scsirsti = (m[STATUS] >> 6) % 2 == 1;
+    let busfree = (m[STATUS] >> 5) % 2 == 1;
+    let scsiperr = (m[STATUS] >> 4) % 2 == 1;
+    let phasechg = (m[STATUS] >> 3) % 2 == 1;
+    let reqinit = (m[STATUS] >> 2) % 2 == 1;
     byte_of(
         false,
         false,
@@ -58,12 +70,12 @@ pub fn sstat1(m: &[u8; 196]) -> u8
 }
 
 // 34Dh
-pub fn sstat2(m: &[u8; 196]) -> u8
+pub fn sstat2(m: &Image) -> u8
     requires { ⌜ IsImage (now m) ⌝ }
     ensures { λ b. ⌜ b ≡ sstat2 (stateAt (now (m .entry))) ⌝ }
 {
-    let offset = m[17];
-    let count = m[23];
+    let offset = m[OFFSET];
+    let count = m[SCSI_COUNT];
     byte_of(
         false,
         false,
@@ -78,30 +90,30 @@ pub fn sstat2(m: &[u8; 196]) -> u8
 }
 
 // 34Eh
-pub fn sstat3(m: &[u8; 196]) -> u8
+pub fn sstat3(m: &Image) -> u8
     requires { ⌜ IsImage (now m) ⌝ }
     ensures { λ b. ⌜ b ≡ sstat3 (stateAt (now (m .entry))) ⌝ }
 {
-    registers::sstat3(m[17], m[23])
+    registers::sstat3(m[OFFSET], m[SCSI_COUNT])
 }
 
 // 34Fh
-pub fn sstat4(m: &[u8; 196]) -> u8
+pub fn sstat4(m: &Image) -> u8
     ensures { λ b. ⌜ b ≡ sstat4 (stateAt (now (m .entry))) ⌝ }
 {
-    let syncerr = (m[12] >> 1) % 2 == 1;
-    let fwerr = (m[12] >> 0) % 2 == 1;
+    let syncerr = (m[STATUS] >> 1) % 2 == 1;
+    let fwerr = (m[STATUS] >> 0) % 2 == 1;
     byte_of(false, false, false, false, false, syncerr, fwerr, false)
 }
 
 // 354h
-pub fn dmastat(m: &[u8; 196]) -> u8
+pub fn dmastat(m: &Image) -> u8
     requires { ⌜ IsImage (now m) ⌝ }
     ensures { λ b. ⌜ b ≡ dmastat (stateAt (now (m .entry))) ⌝ }
 {
     let instat = instat(m);
-    let count = m[24];
-    let write = (m[9] >> 3) % 2 == 1;
+    let count = m[HOST_COUNT];
+    let write = (m[DMACNTRL0] >> 3) % 2 == 1;
     byte_of(
         false,
         !write & (2 <= count),
@@ -115,20 +127,20 @@ pub fn dmastat(m: &[u8; 196]) -> u8
 }
 
 // The place that 35Dh uses.
-fn stack_place(m: &[u8; 196]) -> u8
+fn stack_place(m: &Image) -> u8
     ensures { λ r. ⌜ r ≡ stackPlace ((stateAt (now (m .entry))) .registers .dmacntrl1 .enstk32) ((stateAt (now (m .entry))) .stack) ⌝ }
 {
-    let enstk32 = (m[10] >> 6) % 2 == 1;
-    let pointer = m[22];
+    let enstk32 = (m[DMACNTRL1] >> 6) % 2 == 1;
+    let pointer = m[POINTER];
     if enstk32 { pointer % 32 } else { pointer % 16 }
 }
 
 // 35Dh: the stack stands at 36.
-pub fn stack_byte(m: &[u8; 196]) -> u8
+pub fn stack_byte(m: &Image) -> u8
     ensures { λ r. ⌜ r ≡ stackByte ((stateAt (now (m .entry))) .registers .dmacntrl1 .enstk32) ((stateAt (now (m .entry))) .stack) ⌝ }
 {
     let at = stack_place(m) as usize;
-    m[36 + at]
+    m[STACK_BYTES + at]
 }
 
 const ID_BYTES: [u8; 32] = *b"(C)1991ADAPTECAIC6360           ";
@@ -142,9 +154,9 @@ fn id_at(place: u8) -> u8
     ID_BYTES[at]
 }
 
-pub fn id_byte(m: &[u8; 196]) -> u8
+pub fn id_byte(m: &Image) -> u8
     requires { ⌜ IsImage (now m) ⌝ }
     ensures { λ b. ⌜ b ≡ getD idBytes ((stateAt (now (m .entry))) .identity) 0 ⌝ }
 {
-    id_at(m[21])
+    id_at(m[IDENTITY])
 }

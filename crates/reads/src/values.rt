@@ -15,45 +15,60 @@ use crate::status::sstat3;
 use crate::status::sstat4;
 use crate::status::stack_byte;
 use image::bus::data_seen;
+use image::layout::BRSTCNTRL;
+use image::layout::COUNTER_HIGH;
+use image::layout::COUNTER_LOW;
+use image::layout::COUNTER_MIDDLE;
+use image::layout::DMACNTRL0;
+use image::layout::DMACNTRL1;
+use image::layout::HOST_BYTES;
+use image::layout::HOST_COUNT;
+use image::layout::Image;
+use image::layout::POINTER;
+use image::layout::SCSISEQ;
+use image::layout::SIMODE0;
+use image::layout::SIMODE1;
+use image::layout::SXFRCTL0;
+use image::layout::SXFRCTL1;
 use rules::map::Register;
 
 // 353h: the two bits and the pointer stand apart.
-fn dmacntrl1(m: &[u8; 196]) -> u8
+fn dmacntrl1(m: &Image) -> u8
     requires { ⌜ IsImage (now m) ⌝ }
     ensures { λ r. ⌜ r ≡ dmacntrl1Byte ((stateAt (now (m .entry))) .registers .dmacntrl1) ((stateAt (now (m .entry))) .stack .pointer) ⌝ }
 {
-    m[10] + m[22]
+    m[DMACNTRL1] + m[POINTER]
 }
 
 // A register that can be read, by its name; those that cannot give 0.
-pub fn read_register(m: &[u8; 196], register: Register) -> u8
+pub fn read_register(m: &Image, register: Register) -> u8
     requires { ⌜ IsImage (now m) ⌝ }
     ensures { λ r. ⌜ r ≡ readOf (stateAt (now (m .entry))) register ⌝ }
 {
     match register {
-        Register::SCSISEQ => m[0],
-        Register::SXFRCTL0 => m[1],
-        Register::SXFRCTL1 => m[2],
+        Register::SCSISEQ => m[SCSISEQ],
+        Register::SXFRCTL0 => m[SXFRCTL0],
+        Register::SXFRCTL1 => m[SXFRCTL1],
         Register::SCSISIGI => scsisigi(m),
         Register::SELID => 0,
         Register::SCSIDAT => data_seen(m),
         Register::SCSIBUS => data_seen(m),
-        Register::STCNT0 => m[25],
-        Register::STCNT1 => m[26],
-        Register::STCNT2 => m[27],
+        Register::STCNT0 => m[COUNTER_LOW],
+        Register::STCNT1 => m[COUNTER_MIDDLE],
+        Register::STCNT2 => m[COUNTER_HIGH],
         Register::SSTAT0 => sstat0(m),
         Register::SSTAT1 => sstat1(m),
         Register::SSTAT2 => sstat2(m),
         Register::SSTAT3 => sstat3(m),
         Register::SSTAT4 => sstat4(m),
-        Register::SIMODE0 => m[7],
-        Register::SIMODE1 => m[8],
-        Register::DMACNTRL0 => m[9],
+        Register::SIMODE0 => m[SIMODE0],
+        Register::SIMODE1 => m[SIMODE1],
+        Register::DMACNTRL0 => m[DMACNTRL0],
         Register::DMACNTRL1 => dmacntrl1(m),
         Register::DMASTAT => dmastat(m),
-        Register::FIFOSTAT => m[24],
-        Register::DMADATA => m[68],
-        Register::BRSTCNTRL => m[11],
+        Register::FIFOSTAT => m[HOST_COUNT],
+        Register::DMADATA => m[HOST_BYTES],
+        Register::BRSTCNTRL => m[BRSTCNTRL],
         Register::REV => 1,
         Register::STACK => stack_byte(m),
         Register::ID => id_byte(m),
@@ -69,9 +84,9 @@ fn word(low: u8, high: u8) -> u16
 }
 
 // The two oldest bytes of the host FIFO, 0 for each that is missing.
-pub fn oldest_word(m: &[u8; 196]) -> u16
+pub fn oldest_word(m: &Image) -> u16
     requires { ⌜ IsImage (now m) ⌝ }
     ensures { λ r. ⌜ r ≡ getD ((stateAt (now (m .entry))) .transfer .host) 0 0 + 256 * getD ((stateAt (now (m .entry))) .transfer .host) 1 0 ⌝ }
 {
-    word(m[68], m[69])
+    word(m[HOST_BYTES], m[69])
 }

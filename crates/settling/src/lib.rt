@@ -9,6 +9,13 @@ ghost use Rattle.settling.specs.Settles.{Settles};
 use image::bus::matched;
 use image::bus::path;
 use image::bus::synchronous;
+use image::layout::ACK;
+use image::layout::DMACNTRL0;
+use image::layout::Image;
+use image::layout::LINES_CONTROL;
+use image::layout::LINES_DATA;
+use image::layout::OFFSET;
+use image::layout::SXFRCTL0;
 use rules::chip::Conditions;
 
 mod copies;
@@ -23,11 +30,11 @@ pub struct Told {
 }
 
 // "Handshake, if SCSIEN, path, matched."
-fn enabled(m: &[u8; 196]) -> bool
+fn enabled(m: &Image) -> bool
     ensures { λ r. ⌜ r ≡ (conditions (stateAt (now (m .entry)))) .enabled ⌝ }
 {
     if path(m) {
-        if (m[1] >> 7) % 2 == 1 {
+        if (m[SXFRCTL0] >> 7) % 2 == 1 {
             matched(m)
         } else {
             false
@@ -38,7 +45,7 @@ fn enabled(m: &[u8; 196]) -> bool
 }
 
 // What settling looks at and does not change; where a byte is stored, the lines alone are seen.
-fn conditions_of(m: &[u8; 196]) -> Conditions
+fn conditions_of(m: &Image) -> Conditions
     ensures { λ r. ⌜ r ≡ lookedAt (stateAt (now (m .entry))) ⌝ }
 {
     let way = path(m);
@@ -47,22 +54,22 @@ fn conditions_of(m: &[u8; 196]) -> Conditions
     Conditions {
         path: way,
         enabled: able,
-        outbound: (m[9] >> 3) % 2 == 1,
+        outbound: (m[DMACNTRL0] >> 3) % 2 == 1,
         synchronous: kind,
-        req: (m[16] >> 1) % 2 == 1,
-        byte: m[14],
+        req: (m[LINES_CONTROL] >> 1) % 2 == 1,
+        byte: m[LINES_DATA],
     }
 }
 
 // Whether a handshake can come at all.
-fn possible(m: &[u8; 196]) -> bool
+fn possible(m: &Image) -> bool
     ensures { λ r. ⌜ r ≡ mayShake (stateAt (now (m .entry))) ⌝ }
 {
     if synchronous(m) {
-        0 < m[17]
+        0 < m[OFFSET]
     } else {
-        if (m[16] >> 1) % 2 == 1 {
-            !(m[18] == 1)
+        if (m[LINES_CONTROL] >> 1) % 2 == 1 {
+            !(m[ACK] == 1)
         } else {
             false
         }
@@ -70,7 +77,7 @@ fn possible(m: &[u8; 196]) -> bool
 }
 
 // Handshakes, and the moves after each; made are the moves before them.
-fn shaking(m: &mut [u8; 196], c: Conditions, made: u8) -> Told
+fn shaking(m: &mut Image, c: Conditions, made: u8) -> Told
     requires { ⌜ IsImage (now m) ⌝ }
     requires { ⌜ canMove c ((stateAt (now m)) .transfer) ≡ false ⌝ }
     requires { ⌜ made ≤ 16 ⌝ }
@@ -94,7 +101,7 @@ fn shaking(m: &mut [u8; 196], c: Conditions, made: u8) -> Told
 }
 
 // Moves alone, where no handshake can come.
-fn moving(m: &mut [u8; 196]) -> Told
+fn moving(m: &mut Image) -> Told
     requires { ⌜ IsImage (now m) ⌝ }
     requires { ⌜ mayShake (stateAt (now m)) ≡ false ⌝ }
     ensures { λ r. ⌜ Settles (now (m .entry)) (conditions (stateAt (now (m .entry)))) (now (m .exit)) r ⌝ }
@@ -109,7 +116,7 @@ fn moving(m: &mut [u8; 196]) -> Told
 }
 
 // Settling of an event: without a path nothing is possible; moves do not change whether a handshake can come.
-pub fn settle(m: &mut [u8; 196]) -> Told
+pub fn settle(m: &mut Image) -> Told
     requires { ⌜ IsImage (now m) ⌝ }
     ensures { λ r. ⌜ Settles (now (m .entry)) (conditions (stateAt (now (m .entry)))) (now (m .exit)) r ⌝ }
 {

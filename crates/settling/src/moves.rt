@@ -8,36 +8,41 @@ ghost use Rattle.image.specs.Image.{IsImage, imageOf, stateAt};
 ghost use Rattle.settling.specs.Parts.{movable, carried};
 ghost use Rattle.settling.specs.Steps.{Moves};
 use image::copies::copied;
+use image::layout::HOST_BYTES;
+use image::layout::HOST_COUNT;
+use image::layout::Image;
+use image::layout::SCSI_BYTES;
+use image::layout::SCSI_COUNT;
 use rules::chip::Conditions;
 
 // k bytes from the host FIFO behind those of the SCSI FIFO.
-fn carried_out(m: &mut [u8; 196], k: usize)
+fn carried_out(m: &mut Image, k: usize)
     requires { ⌜ IsImage (now m) ⌝ }
     requires { ⌜ k ≤ length ((stateAt (now m)) .transfer .host) ⌝ }
     requires { ⌜ length ((stateAt (now m)) .transfer .scsi) + k ≤ 8 ⌝ }
     ensures { λ _. ⌜ now (m .exit) ≡ imageOf (withTransfer (carried true k ((stateAt (now (m .entry))) .transfer)) (stateAt (now (m .entry)))) ⌝ }
 {
-    let held = crate::copies::wide(m[23]);
-    let n = crate::copies::wide(m[24]);
-    copied(m, 68, 28 + held, k);
+    let held = crate::copies::wide(m[SCSI_COUNT]);
+    let n = crate::copies::wide(m[HOST_COUNT]);
+    copied(m, HOST_BYTES, SCSI_BYTES + held, k);
     crate::copies::moved_down(m, 68, n, k);
-    m[23] = (held + k) as u8;
-    m[24] = (n - k) as u8;
+    m[SCSI_COUNT] = (held + k) as u8;
+    m[HOST_COUNT] = (n - k) as u8;
 }
 
 // k bytes from the SCSI FIFO behind those of the host FIFO.
-fn carried_in(m: &mut [u8; 196], k: usize)
+fn carried_in(m: &mut Image, k: usize)
     requires { ⌜ IsImage (now m) ⌝ }
     requires { ⌜ k ≤ length ((stateAt (now m)) .transfer .scsi) ⌝ }
     requires { ⌜ length ((stateAt (now m)) .transfer .host) + k ≤ 128 ⌝ }
     ensures { λ _. ⌜ now (m .exit) ≡ imageOf (withTransfer (carried false k ((stateAt (now (m .entry))) .transfer)) (stateAt (now (m .entry)))) ⌝ }
 {
-    let n = crate::copies::wide(m[23]);
-    let held = crate::copies::wide(m[24]);
-    copied(m, 28, 68 + held, k);
+    let n = crate::copies::wide(m[SCSI_COUNT]);
+    let held = crate::copies::wide(m[HOST_COUNT]);
+    copied(m, SCSI_BYTES, HOST_BYTES + held, k);
     crate::copies::moved_down(m, 28, n, k);
-    m[23] = (n - k) as u8;
-    m[24] = (held + k) as u8;
+    m[SCSI_COUNT] = (n - k) as u8;
+    m[HOST_COUNT] = (held + k) as u8;
 }
 
 fn smaller(a: usize, b: usize) -> usize
@@ -47,12 +52,12 @@ fn smaller(a: usize, b: usize) -> usize
 }
 
 // The moves that are possible one after the other; most often there is nothing to move, which is looked at first.
-pub fn run_length(m: &[u8; 196], c: Conditions) -> usize
+pub fn run_length(m: &Image, c: Conditions) -> usize
     requires { ⌜ IsImage (now m) ⌝ }
     ensures { λ r. ⌜ r ≡ movable c ((stateAt (now (m .entry))) .transfer) ⌝ }
 {
-    let scsi = crate::copies::wide(m[23]);
-    let host = crate::copies::wide(m[24]);
+    let scsi = crate::copies::wide(m[SCSI_COUNT]);
+    let host = crate::copies::wide(m[HOST_COUNT]);
     if c.path {
         if c.outbound {
             if host == 0 {
@@ -73,7 +78,7 @@ pub fn run_length(m: &[u8; 196], c: Conditions) -> usize
 }
 
 // A run of k moves.
-fn carried_run(m: &mut [u8; 196], c: Conditions, k: usize)
+fn carried_run(m: &mut Image, c: Conditions, k: usize)
     requires { ⌜ IsImage (now m) ⌝ }
     requires { ⌜ k ≤ movable c ((stateAt (now m)) .transfer) ⌝ }
     ensures { λ _. ⌜ now (m .exit) ≡ imageOf (withTransfer (carried (c .outbound) k ((stateAt (now (m .entry))) .transfer)) (stateAt (now (m .entry)))) ⌝ }
@@ -86,7 +91,7 @@ fn carried_run(m: &mut [u8; 196], c: Conditions, k: usize)
 }
 
 // The longest run of moves, and how many they are.
-pub fn moved(m: &mut [u8; 196], c: Conditions) -> u8
+pub fn moved(m: &mut Image, c: Conditions) -> u8
     requires { ⌜ IsImage (now m) ⌝ }
     ensures { λ r. ⌜ Moves (now (m .entry)) c (now (m .exit)) r ⌝ }
 {

@@ -12,15 +12,25 @@ ghost use Rattle.image.specs.Image.{IsImage, imageOf, stateAt};
 ghost use Rattle.settling.specs.Laid.{counterPut};
 ghost use Rattle.settling.specs.Parts.{passed, acknowledged};
 ghost use Rattle.settling.specs.Steps.{sentWith, byteOf, shakenOf};
+ghost use Rattle.image.specs.Layout.{counterHighPlace, counterLowPlace, counterMiddlePlace};
 use fifos::sent::Sent;
+use image::layout::ACK;
+use image::layout::COUNTER_HIGH;
+use image::layout::COUNTER_LOW;
+use image::layout::COUNTER_MIDDLE;
+use image::layout::Image;
+use image::layout::LAST;
+use image::layout::OFFSET;
+use image::layout::SCSI_BYTES;
+use image::layout::SCSI_COUNT;
 use rules::chip::Conditions;
 
-fn can_synchronous(m: &[u8; 196], c: Conditions) -> bool
+fn can_synchronous(m: &Image, c: Conditions) -> bool
     requires { ⌜ IsImage (now m) ⌝ }
     ensures { λ r. ⌜ r ≡ canSynchronous c ((stateAt (now (m .entry))) .transfer) ⌝ }
 {
-    let held = m[23];
-    let open = m[17];
+    let held = m[SCSI_COUNT];
+    let open = m[OFFSET];
     if c.outbound {
         (0 < open) & (0 < held)
     } else {
@@ -28,12 +38,12 @@ fn can_synchronous(m: &[u8; 196], c: Conditions) -> bool
     }
 }
 
-fn can_asynchronous(m: &[u8; 196], c: Conditions) -> bool
+fn can_asynchronous(m: &Image, c: Conditions) -> bool
     requires { ⌜ IsImage (now m) ⌝ }
     ensures { λ r. ⌜ r ≡ canAsynchronous c ((stateAt (now (m .entry))) .transfer) ⌝ }
 {
-    let held = m[23];
-    let on = m[18] == 1;
+    let held = m[SCSI_COUNT];
+    let on = m[ACK] == 1;
     if c.outbound {
         c.req & !on & (0 < held)
     } else {
@@ -41,7 +51,7 @@ fn can_asynchronous(m: &[u8; 196], c: Conditions) -> bool
     }
 }
 
-pub fn can_handshake(m: &[u8; 196], c: Conditions) -> bool
+pub fn can_handshake(m: &Image, c: Conditions) -> bool
     requires { ⌜ IsImage (now m) ⌝ }
     ensures { λ r. ⌜ r ≡ canHandshake c ((stateAt (now (m .entry))) .transfer) ⌝ }
 {
@@ -53,14 +63,14 @@ pub fn can_handshake(m: &[u8; 196], c: Conditions) -> bool
 }
 
 // The oldest byte of the SCSI FIFO goes to the bus; the places past the count hold 0 and move with the others.
-fn byte_sent(m: &mut [u8; 196]) -> u8
+fn byte_sent(m: &mut Image) -> u8
     requires { ⌜ IsImage (now m) ⌝ }
     requires { ⌜ 0 < length ((stateAt (now m)) .transfer .scsi) ⌝ }
     ensures { λ r. ⌜ (r ≡ getD ((stateAt (now (m .entry))) .transfer .scsi) 0 0) × (now (m .exit) ≡ imageOf (withTransfer (passed true [] ((stateAt (now (m .entry))) .transfer)) (stateAt (now (m .entry))))) ⌝ }
 {
-    let n = m[23];
-    let b = m[28];
-    m[28] = m[29];
+    let n = m[SCSI_COUNT];
+    let b = m[SCSI_BYTES];
+    m[SCSI_BYTES] = m[29];
     m[29] = m[30];
     m[30] = m[31];
     m[31] = m[32];
@@ -68,24 +78,24 @@ fn byte_sent(m: &mut [u8; 196]) -> u8
     m[33] = m[34];
     m[34] = m[35];
     m[35] = 0;
-    m[19] = b;
-    m[23] = n - 1;
+    m[LAST] = b;
+    m[SCSI_COUNT] = n - 1;
     b
 }
 
 // The byte seen is stored.
-fn byte_stored(m: &mut [u8; 196], b: u8)
+fn byte_stored(m: &mut Image, b: u8)
     requires { ⌜ IsImage (now m) ⌝ }
     requires { ⌜ length ((stateAt (now m)) .transfer .scsi) < 8 ⌝ }
     ensures { λ _. ⌜ now (m .exit) ≡ imageOf (withTransfer (passed false (b ∷ []) ((stateAt (now (m .entry))) .transfer)) (stateAt (now (m .entry)))) ⌝ }
 {
-    let n = crate::copies::wide(m[23]);
-    m[28 + n] = b;
-    m[23] = (n + 1) as u8;
+    let n = crate::copies::wide(m[SCSI_COUNT]);
+    m[SCSI_BYTES + n] = b;
+    m[SCSI_COUNT] = (n + 1) as u8;
 }
 
 // The byte of a handshake; a synchronous inbound one is stored already.
-fn byte_passed(m: &mut [u8; 196], c: Conditions, sent: Sent) -> Sent
+fn byte_passed(m: &mut Image, c: Conditions, sent: Sent) -> Sent
     requires { ⌜ IsImage (now m) ⌝ }
     requires { ⌜ canHandshake c ((stateAt (now m)) .transfer) ≡ true ⌝ }
     requires { ⌜ SentTidy sent ⌝ }
@@ -109,31 +119,31 @@ fn word(x: u8) -> u32
     x as u32
 }
 
-fn counter_of(m: &[u8; 196]) -> u32
-    ensures { λ r. ⌜ r ≡ getD (now (m .entry)) 25 0 + 256 * getD (now (m .entry)) 26 0 + 65536 * getD (now (m .entry)) 27 0 ⌝ }
+fn counter_of(m: &Image) -> u32
+    ensures { λ r. ⌜ r ≡ getD (now (m .entry)) counterLowPlace 0 + 256 * getD (now (m .entry)) counterMiddlePlace 0 + 65536 * getD (now (m .entry)) counterHighPlace 0 ⌝ }
 {
-    let low = word(m[25]);
-    let middle = word(m[26]);
-    let high = word(m[27]);
+    let low = word(m[COUNTER_LOW]);
+    let middle = word(m[COUNTER_MIDDLE]);
+    let high = word(m[COUNTER_HIGH]);
     low + 256 * middle + 65536 * high
 }
 
-fn counter_stored(m: &mut [u8; 196], n: u32)
-    ensures { λ _. ⌜ now (m .exit) ≡ set (set (set (now (m .entry)) 25 (counterByte 0 n)) 26 (counterByte 1 n)) 27 (counterByte 2 n) ⌝ }
+fn counter_stored(m: &mut Image, n: u32)
+    ensures { λ _. ⌜ now (m .exit) ≡ set (set (set (now (m .entry)) counterLowPlace (counterByte 0 n)) counterMiddlePlace (counterByte 1 n)) counterHighPlace (counterByte 2 n) ⌝ }
 {
-    m[25] = (n % 256) as u8;
-    m[26] = ((n / 256) % 256) as u8;
-    m[27] = ((n / 65536) % 256) as u8;
+    m[COUNTER_LOW] = (n % 256) as u8;
+    m[COUNTER_MIDDLE] = ((n / 256) % 256) as u8;
+    m[COUNTER_HIGH] = ((n / 65536) % 256) as u8;
 }
 
 // "Each ACK adds one to the counter, modulo 16,777,216"; most often the low byte alone changes.
-fn counted_in(m: &mut [u8; 196])
+fn counted_in(m: &mut Image)
     requires { ⌜ IsImage (now m) ⌝ }
     ensures { λ _. ⌜ now (m .exit) ≡ counterPut (now (m .entry)) (counted ((stateAt (now (m .entry))) .transfer .counter)) ⌝ }
 {
-    let low = m[25];
+    let low = m[COUNTER_LOW];
     if low < 255 {
-        m[25] = low + 1;
+        m[COUNTER_LOW] = low + 1;
     } else {
         let n = counter_of(m);
         counter_stored(m, (n % 16777216 + 1) % 16777216);
@@ -141,16 +151,16 @@ fn counted_in(m: &mut [u8; 196])
 }
 
 // The ACK of a handshake: a pulse that lowers the offset, or on.
-fn ack_given(m: &mut [u8; 196], synchronous: bool)
+fn ack_given(m: &mut Image, synchronous: bool)
     requires { ⌜ IsImage (now m) ⌝ }
     ensures { λ _. ⌜ now (m .exit) ≡ imageOf (withTransfer (acknowledged synchronous ((stateAt (now (m .entry))) .transfer)) (stateAt (now (m .entry)))) ⌝ }
 {
     counted_in(m);
     if synchronous {
-        let offset = m[17];
-        m[17] = less_one(offset);
+        let offset = m[OFFSET];
+        m[OFFSET] = less_one(offset);
     } else {
-        m[18] = 1;
+        m[ACK] = 1;
     }
 }
 
@@ -161,7 +171,7 @@ fn less_one(n: u8) -> u8
 }
 
 // A handshake, with the bytes sent so far.
-pub fn shaken(m: &mut [u8; 196], c: Conditions, sent: Sent) -> Sent
+pub fn shaken(m: &mut Image, c: Conditions, sent: Sent) -> Sent
     requires { ⌜ IsImage (now m) ⌝ }
     requires { ⌜ canHandshake c ((stateAt (now m)) .transfer) ≡ true ⌝ }
     requires { ⌜ SentTidy sent ⌝ }

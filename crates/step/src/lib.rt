@@ -3,15 +3,16 @@ ghost use mathlib.Core.Path.{_≡_};
 ghost use lib.ListN.{length};
 ghost use Rattle.rules.specs.Ranges.{Tidy};
 ghost use Rattle.step.specs.Outcomes.{IsStep};
+use image::layout::SIZE;
 
 pub mod answers;
 pub mod reset;
 pub mod run;
 
 use crate::answers::store_at;
+use event::stepping::stepped;
 use rules::chip::Chip;
 use rules::codes::Code;
-use event::stepping::stepped;
 
 // What a call returns.
 pub struct Returned {
@@ -31,7 +32,7 @@ fn stepped_over(c: Chip, bytes: &[u8], answer: &mut [u8]) -> Returned
     requires { ⌜ length (now answer) ≡ 16 ⌝ }
     ensures { λ r. ⌜ IsStep c (now (bytes .entry)) (now (answer .entry)) (now (answer .exit)) r ⌝ }
 {
-    let mut m = [0u8; 196];
+    let mut m = [0u8; SIZE];
     chips::store(c, &mut m);
     let reply = stepped(&mut m, bytes);
     let b = reply.answer;

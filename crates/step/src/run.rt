@@ -7,8 +7,10 @@ ghost use Rattle.step.specs.Runs.{IsRun, IsTurn};
 use crate::Ran;
 use crate::answers::store_at;
 use crate::reset::tidied;
-use rules::chip::Chip;
 use event::stepping::stepped;
+use image::layout::Image;
+use image::layout::SIZE;
+use rules::chip::Chip;
 
 fn smaller(a: usize, b: usize) -> usize
     ensures { λ r. ⌜ r ≡ min a b ⌝ }
@@ -17,7 +19,7 @@ fn smaller(a: usize, b: usize) -> usize
 }
 
 // Record i, and its answer in its place; the last record ends where the slice does.
-fn turn(m: &mut [u8; 196], records: &[u8], answers: &mut [u8], i: usize)
+fn turn(m: &mut Image, records: &[u8], answers: &mut [u8], i: usize)
     requires { ⌜ IsImage (now m) ⌝ }
     requires { ⌜ 4 * i < length (now records) ⌝ }
     requires { ⌜ 16 * i + 16 ≤ length (now answers) ⌝ }
@@ -36,7 +38,7 @@ pub fn run(c: Chip, records: &[u8], answers: &mut [u8]) -> Ran
 {
     let n = smaller((records.len() + 3) / 4, answers.len() / 16);
     let chip = tidied(c);
-    let mut m = [0u8; 196];
+    let mut m = [0u8; SIZE];
     chips::store(chip, &mut m);
     for i in 0..n {
         turn(&mut m, records, answers, i);

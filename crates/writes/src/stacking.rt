@@ -5,6 +5,10 @@ ghost use Prim.Native.Nat.{_+_, _%_};
 ghost use Rattle.rules.specs.Stack.{stackSize, stackRead, stackWritten, pointed};
 ghost use Rattle.rules.specs.Changed.{withStack};
 ghost use Rattle.image.specs.Image.{IsImage, imageOf, stateAt};
+use image::layout::DMACNTRL1;
+use image::layout::Image;
+use image::layout::POINTER;
+use image::layout::STACK_BYTES;
 
 // The place that a pointer names.
 fn place_of(enstk32: bool, pointer: u8) -> u8
@@ -22,32 +26,32 @@ fn next_of(enstk32: bool, pointer: u8) -> u8
 }
 
 // A write of 35Dh.
-pub fn pushed(m: &mut [u8; 196], value: u8)
+pub fn pushed(m: &mut Image, value: u8)
     requires { ⌜ IsImage (now m) ⌝ }
     ensures { λ _. ⌜ now (m .exit) ≡ imageOf (withStack (stackWritten ((stateAt (now (m .entry))) .registers .dmacntrl1 .enstk32) value ((stateAt (now (m .entry))) .stack)) (stateAt (now (m .entry)))) ⌝ }
 {
-    let enstk32 = (m[10] >> 6) % 2 == 1;
-    let pointer = m[22];
+    let enstk32 = (m[DMACNTRL1] >> 6) % 2 == 1;
+    let pointer = m[POINTER];
     let at = place_of(enstk32, pointer) as usize;
     let next = next_of(enstk32, pointer);
-    m[36 + at] = value;
-    m[22] = next;
+    m[STACK_BYTES + at] = value;
+    m[POINTER] = next;
 }
 
 // A read of 35Dh.
-pub fn popped(m: &mut [u8; 196])
+pub fn popped(m: &mut Image)
     requires { ⌜ IsImage (now m) ⌝ }
     ensures { λ _. ⌜ now (m .exit) ≡ imageOf (withStack (stackRead ((stateAt (now (m .entry))) .registers .dmacntrl1 .enstk32) ((stateAt (now (m .entry))) .stack)) (stateAt (now (m .entry)))) ⌝ }
 {
-    let enstk32 = (m[10] >> 6) % 2 == 1;
-    let pointer = m[22];
-    m[22] = next_of(enstk32, pointer);
+    let enstk32 = (m[DMACNTRL1] >> 6) % 2 == 1;
+    let pointer = m[POINTER];
+    m[POINTER] = next_of(enstk32, pointer);
 }
 
 // A write of 353h: "pointer 4-0".
-pub fn pointed(m: &mut [u8; 196], value: u8)
+pub fn pointed(m: &mut Image, value: u8)
     requires { ⌜ IsImage (now m) ⌝ }
     ensures { λ _. ⌜ now (m .exit) ≡ imageOf (withStack (pointed value ((stateAt (now (m .entry))) .stack)) (stateAt (now (m .entry)))) ⌝ }
 {
-    m[22] = value % 32;
+    m[POINTER] = value % 32;
 }

@@ -10,6 +10,19 @@ ghost use Rattle.rules.specs.Changed.{withRegisters};
 ghost use Rattle.image.specs.Image.{IsImage, imageOf, stateAt, scsisigByte};
 ghost use Rattle.writes.specs.Found.{Written};
 use image::bytes::scsisig_byte;
+use image::layout::BRSTCNTRL;
+use image::layout::DMACNTRL0;
+use image::layout::DMACNTRL1;
+use image::layout::Image;
+use image::layout::SCSIDAT;
+use image::layout::SCSIID;
+use image::layout::SCSIRATE;
+use image::layout::SCSISEQ;
+use image::layout::SCSISIG;
+use image::layout::SIMODE0;
+use image::layout::SIMODE1;
+use image::layout::SXFRCTL0;
+use image::layout::SXFRCTL1;
 use registers::bytes::dmacntrl0_byte;
 use registers::bytes::dmacntrl0_of;
 use registers::bytes::dmacntrl1_byte;
@@ -38,25 +51,28 @@ fn atn_cleared(sig: u8, value: u8) -> u8
 }
 
 // A register that a write finds: its byte without the bits that are not stored.
-pub fn stored(m: &mut [u8; 196], register: Register, value: u8)
+pub fn stored(m: &mut Image, register: Register, value: u8)
     requires { ⌜ IsImage (now m) ⌝ }
     requires { ⌜ Written register ⌝ }
     ensures { λ _. ⌜ now (m .exit) ≡ imageOf (withRegisters (registersA ((stateAt (now (m .entry))) .registers) (Write (offsetOf register) value)) (stateAt (now (m .entry)))) ⌝ }
 {
     match register {
-        Register::SCSISEQ => m[0] = scsiseq_byte(scsiseq_of(value)),
-        Register::SXFRCTL0 => m[1] = sxfrctl0_byte(sxfrctl0_of(value)),
-        Register::SXFRCTL1 => m[2] = sxfrctl1_byte(sxfrctl1_of(value)),
-        Register::SCSISIGO => m[3] = scsisig_byte(scsisig_of((m[3] >> 4) % 2 == 1, value)),
-        Register::SCSIRATE => m[4] = value % 128,
-        Register::SCSIID => m[5] = (value >> 4) % 8 * 16 + value % 8,
-        Register::SCSIDAT => m[6] = value,
-        Register::CLRSINT1 => m[3] = atn_cleared(m[3], value),
-        Register::SIMODE0 => m[7] = simode0_byte(simode0_of(value)),
-        Register::SIMODE1 => m[8] = simode1_byte(simode1_of(value)),
-        Register::DMACNTRL0 => m[9] = dmacntrl0_byte(dmacntrl0_of(value)),
-        Register::DMACNTRL1 => m[10] = dmacntrl1_byte(dmacntrl1_of(value), 0),
-        Register::BRSTCNTRL => m[11] = value,
+        Register::SCSISEQ => m[SCSISEQ] = scsiseq_byte(scsiseq_of(value)),
+        Register::SXFRCTL0 => m[SXFRCTL0] = sxfrctl0_byte(sxfrctl0_of(value)),
+        Register::SXFRCTL1 => m[SXFRCTL1] = sxfrctl1_byte(sxfrctl1_of(value)),
+        Register::SCSISIGO => m[SCSISIG] = scsisig_byte(scsisig_of(
+            (m[SCSISIG] >> 4) % 2 == 1,
+            value,
+        )),
+        Register::SCSIRATE => m[SCSIRATE] = value % 128,
+        Register::SCSIID => m[SCSIID] = (value >> 4) % 8 * 16 + value % 8,
+        Register::SCSIDAT => m[SCSIDAT] = value,
+        Register::CLRSINT1 => m[SCSISIG] = atn_cleared(m[SCSISIG], value),
+        Register::SIMODE0 => m[SIMODE0] = simode0_byte(simode0_of(value)),
+        Register::SIMODE1 => m[SIMODE1] = simode1_byte(simode1_of(value)),
+        Register::DMACNTRL0 => m[DMACNTRL0] = dmacntrl0_byte(dmacntrl0_of(value)),
+        Register::DMACNTRL1 => m[DMACNTRL1] = dmacntrl1_byte(dmacntrl1_of(value), 0),
+        Register::BRSTCNTRL => m[BRSTCNTRL] = value,
         _ => {}
     }
 }

@@ -3,10 +3,8 @@ use mathlib.Core.Bool.{Bool, true, false, not, _&&_, _||_, cond}
 use borrow.Author.Needs.{needs}
 use borrow.Author.Tests.{eq-eqb, ne-eqb}
 use Rattle.rules.specs.Seen.{driving, connected, manual, automatic, normal}
-use Rattle.rules.specs.State.{Transfer}
-use Rattle.rules.specs.declared.registers.Registers.{Registers}
-use Rattle.rules.specs.declared.records.Lines.{Lines}
-use Rattle.image.specs.Image.{registersAt, linesAt, transferAt}
+use Rattle.rules.specs.State.{State}
+use Rattle.image.specs.Image.{stateAt}
 use Rattle.image.proofs.bus.driving.Statement.{statement}
 use Rattle.image.proofs.bus.driving.Tie as tie
 
@@ -22,35 +20,38 @@ first false false true = refl
 first false false false = refl
 
 -- by the tests, as the code has them
-by-tests : (r : Registers) (l : Lines) (t : Transfer) {i k m a n : Bool} → i ≡ l .io → k ≡ connected r l → m ≡ manual r → a ≡ automatic r → n ≡ normal r → cond (m || a || (n && t .ack)) (cond i false k) false ≡ driving r l t
+by-tests : (s : State) {i k m a n : Bool} → i ≡ s .lines .io → k ≡ connected s → m ≡ manual (s .registers) → a ≡ automatic (s .registers) → n ≡ normal (s .registers) → cond (m || a || (n && s .transfer .ack)) (cond i false k) false ≡ driving s
 unfolding driving
-by-tests r l t d e f g h = rw (d, e, f, g, h) (first _ (l .io) (connected r l))
+by-tests s d e f g h = rw (d, e, f, g, h) (first _ (s .lines .io) (connected s))
 
 returns : tie.Need-returns
+unfolding stateAt
 returns c =
     let mode = c .before .before in
     let normal = mode .before .before in
     let automatic = normal .before in
     let manual = automatic .before in
     let m = manual .before .args .m .now in
-    rw (mode .if1 .taken) at (by-tests (registersAt m) (linesAt m) (transferAt m) (sym (eq-eqb _ _ (c .if2 .taken))) refl (manual .manual .ensures) (automatic .automatic .ensures) (normal .normal .ensures))
+    rw (mode .if1 .taken) at (by-tests (stateAt m) (sym (eq-eqb _ _ (c .if2 .taken))) refl (manual .manual .ensures) (automatic .automatic .ensures) (normal .normal .ensures))
 
 returns-2 : tie.Need-returns-2
+unfolding stateAt
 returns-2 c =
     let mode = c .before .before .before in
     let normal = mode .before .before in
     let automatic = normal .before in
     let manual = automatic .before in
     let m = manual .before .args .m .now in
-    rw (mode .if1 .taken) at (by-tests (registersAt m) (linesAt m) (transferAt m) (sym (ne-eqb _ _ (c .before .if2 .left))) (c .connected .ensures) (manual .manual .ensures) (automatic .automatic .ensures) (normal .normal .ensures))
+    rw (mode .if1 .taken) at (by-tests (stateAt m) (sym (ne-eqb _ _ (c .before .if2 .left))) (c .connected .ensures) (manual .manual .ensures) (automatic .automatic .ensures) (normal .normal .ensures))
 
 returns-3 : tie.Need-returns-3
+unfolding stateAt
 returns-3 c =
     let normal = c .before .before in
     let automatic = normal .before in
     let manual = automatic .before in
     let m = manual .before .args .m .now in
-    rw (c .if1 .left) at (by-tests (registersAt m) (linesAt m) (transferAt m) refl refl (manual .manual .ensures) (automatic .automatic .ensures) (normal .normal .ensures))
+    rw (c .if1 .left) at (by-tests (stateAt m) refl refl (manual .manual .ensures) (automatic .automatic .ensures) (normal .normal .ensures))
 
 pub driving-spec : {M : Type 1} → statement M
 driving-spec =
