@@ -7,19 +7,20 @@ use native.Mathlib.Numerals.{add-one}
 use lib.ListN.{length, set, getD, length-set}
 use lib.Seq.{paste, paste-zero, paste-suc}
 use Rattle.rules.specs.Ranges.{Bytes}
+use Rattle.image.specs.Layout.{imageSize}
 use Rattle.chips.specs.Parts.{Placed}
 
 -- i of the n bytes of s stand in m from a place on, the rest is as it was
 pub record Pasted (before : List ℕ) (at : ℕ) (s : List ℕ) (n : ℕ) (m : List ℕ) (i : ℕ) : Type 0 where
   pub within : i ≤ n
-  pub room : at + n ≤ 196
+  pub room : at + n ≤ imageSize
   pub enough : length s ≡ n
   pub bytes : Bytes s
-  pub size-before : length before ≡ 196
-  pub size : length m ≡ 196
+  pub size-before : length before ≡ imageSize
+  pub size : length m ≡ imageSize
   pub placed : m ≡ paste before at s i
 
-pub begun : (m : List ℕ) (at : ℕ) (s : List ℕ) (n : ℕ) → length m ≡ 196 → length s ≡ n → Bytes s → at + n ≤ 196 → Pasted m at s n m 0
+pub begun : (m : List ℕ) (at : ℕ) (s : List ℕ) (n : ℕ) → length m ≡ imageSize → length s ≡ n → Bytes s → at + n ≤ imageSize → Pasted m at s n m 0
 begun m at s n e q b h =
     record {
       within = omega arith;

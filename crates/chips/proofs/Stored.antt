@@ -12,19 +12,20 @@ use Rattle.rules.specs.declared.chip.Chip.{Chip}
 use Rattle.rules.proofs.Ranges.{bytes-take}
 use Rattle.laws.proofs.Chips.{tidy-registers, tidy-host, tidy-scsi}
 use Rattle.image.specs.Image.{imageOf}
+use Rattle.image.specs.Layout.{imageSize}
 use Rattle.chips.specs.Parts.{registersBytes, flagsBytes, numbersBytes, countsBytes, Placed}
 
 -- the first k bytes are in their places
 pub record Filled (m : List ℕ) (k : ℕ) (p : List ℕ) : Type 0 where
-  pub size : length m ≡ 196
+  pub size : length m ≡ imageSize
   pub front : take k m ≡ p
 
-pub none : (m : List ℕ) → length m ≡ 196 → Filled m 0 []
+pub none : (m : List ℕ) → length m ≡ imageSize → Filled m 0 []
 none m e = record { size = e; front = refl }
 
 module _ {m : List ℕ} {k : ℕ} {p : List ℕ} (f : Filled m k p) where
   -- by stores
-  pub stored : (vs : List ℕ) {after : List ℕ} → k + length vs ≤ 196 → after ≡ sets m k vs → Filled after (k + length vs) (p ++ vs)
+  pub stored : (vs : List ℕ) {after : List ℕ} → k + length vs ≤ imageSize → after ≡ sets m k vs → Filled after (k + length vs) (p ++ vs)
   stored vs h e =
       let s : sets m k vs ≡ take k m ++ vs ++ drop (k + length vs) m = sets-eq vs m k (omega arith) in
       let n : length (take k m) ≡ k = length-take-le k m (omega arith) in
@@ -35,7 +36,7 @@ module _ {m : List ℕ} {k : ℕ} {p : List ℕ} (f : Filled m k p) where
       }
 
   -- by a copy
-  pub copied : {s : List ℕ} {n : ℕ} {after : List ℕ} → k + n ≤ 196 → Placed m k s n after → Filled after (k + n) (p ++ s)
+  pub copied : {s : List ℕ} {n : ℕ} {after : List ℕ} → k + n ≤ imageSize → Placed m k s n after → Filled after (k + n) (p ++ s)
   copied {s} {n} h c =
       let all : take n s ≡ s = take-all n s (omega arith) in
       record {
@@ -43,8 +44,8 @@ module _ {m : List ℕ} {k : ℕ} {p : List ℕ} (f : Filled m k p) where
         front = rw (c .placed) (take-paste m k s n (omega arith) (omega arith) ∙ ap (λ (q : List ℕ). q ++ take n s) (f .front) ∙ ap (λ (q : List ℕ). p ++ q) all);
       }
 
-pub whole : {m p : List ℕ} → Filled m 196 p → m ≡ p
-whole {m} f = sym (take-all 196 m (omega arith)) ∙ f .front
+pub whole : {m p : List ℕ} → Filled m imageSize p → m ≡ p
+whole {m} f = sym (take-all imageSize m (omega arith)) ∙ f .front
 
 -- the bytes of a chip value in the order of the stores
 abbrev pub bytesOf : Chip → List ℕ

@@ -7,16 +7,17 @@ use native.Mathlib.Numerals.{unary-clauses}
 use lib.ListN.{length, take, drop, set, getD, replicate, length-drop}
 use lib.Seq.{length-take-le}
 use Rattle.rules.specs.Numbers.{padded}
+use Rattle.image.specs.Layout.{imageSize}
 use Rattle.laws.proofs.Lists.{window-copy, padded-full}
 
 -- i of the n bytes from a place on stand in out, then zeros
 pub record Taken (m : List ℕ) (at n : ℕ) (out : List ℕ) (i : ℕ) : Type 0 where
   pub within : i ≤ n
-  pub room : at + n ≤ 196
-  pub size : length m ≡ 196
+  pub room : at + n ≤ imageSize
+  pub size : length m ≡ imageSize
   pub held : out ≡ padded n (take i (drop at m))
 
-pub begun : (m : List ℕ) (at n : ℕ) → length m ≡ 196 → at + n ≤ 196 → Taken m at n (replicate n 0) 0
+pub begun : (m : List ℕ) (at n : ℕ) → length m ≡ imageSize → at + n ≤ imageSize → Taken m at n (replicate n 0) 0
 unfolding padded
 begun m at n e h = record { within = omega arith; room = h; size = e; held = simp unary-clauses }
 

@@ -17,6 +17,7 @@ use Rattle.rules.specs.declared.chip.Latches.{Latches}
 use Rattle.rules.specs.declared.chip.Stack.{Stack}
 use Rattle.rules.specs.declared.chip.Chip.{Chip}
 use Rattle.image.specs.Image.{imageOf, IsImage, scsisigByte, scsirateByte, scsiidByte, statusByte, latchesByte, upperByte, controlByte}
+use Rattle.image.specs.Layout.{imageSize, pointerPlace, stackBytesPlace}
 
 -- from 0 on
 abbrev pub registersBytes : Registers → List ℕ
@@ -49,16 +50,16 @@ abbrev pub countsBytes : ℕ → ℕ → ℕ → List ℕ
 countsBytes scsi host counter =
     scsi ∷ host ∷ counterByte 0 counter ∷ counterByte 1 counter ∷ counterByte 2 counter ∷ []
 
--- n bytes stand from a place on in an array of 196, the others are as they were
+-- n bytes stand from a place on in an array of imageSize, the others are as they were
 pub record Placed (before : List ℕ) (at : ℕ) (s : List ℕ) (n : ℕ) (after : List ℕ) : Type 0 where
-  pub size : length before ≡ 196
+  pub size : length before ≡ imageSize
   pub enough : length s ≡ n
   pub bytes : Bytes s
   pub placed : after ≡ paste before at s n
 
 -- the stack that an image holds
 abbrev pub stackAt : List ℕ → Stack
-stackAt m = record { bytes = take 32 (drop 36 m); pointer = getD m 22 0 }
+stackAt m = record { bytes = take 32 (drop stackBytesPlace m); pointer = getD m pointerPlace 0 }
 
 -- the array after a chip value was stored into it
 pub record Stored (c : Chip) (m : List ℕ) : Type 0 where

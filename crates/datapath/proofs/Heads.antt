@@ -12,18 +12,19 @@ use Rattle.rules.specs.Counter.{counterSize, counted, counterByte, counterWith}
 use Rattle.rules.specs.State.{State}
 use Rattle.image.specs.Image.{imageOf, headOf}
 use Rattle.rules.specs.Changed.{withScsi, withCounter, withOffset, withAck}
+use Rattle.image.specs.Layout.{ackPlace, counterHighPlace, counterLowPlace, counterMiddlePlace, offsetPlace, scsiCountPlace}
 use Rattle.datapath.specs.Ready.{Placed, counterWritten, counterCounted}
 use Rattle.datapath.proofs.Fronts.{paste-at}
 
 -- the three bytes of a number stand for it
-pub stored : (s : State) (n : ℕ) → set (set (set (imageOf s) 25 (counterByte 0 n)) 26 (counterByte 1 n)) 27 (counterByte 2 n) ≡ imageOf (withCounter n s)
+pub stored : (s : State) (n : ℕ) → set (set (set (imageOf s) counterLowPlace (counterByte 0 n)) counterMiddlePlace (counterByte 1 n)) counterHighPlace (counterByte 2 n) ≡ imageOf (withCounter n s)
 unfolding imageOf
 stored s n = refl
 
 pub bytes-joined : (n : ℕ) → n < counterSize → counterByte 0 n + 256 * counterByte 1 n + 65536 * counterByte 2 n ≡ n
 bytes-joined n h = omega arith
 
-pub counter-bytes : (s : State) → getD (imageOf s) 25 0 + 256 * getD (imageOf s) 26 0 + 65536 * getD (imageOf s) 27 0 ≡ counterByte 0 (s .transfer .counter) + 256 * counterByte 1 (s .transfer .counter) + 65536 * counterByte 2 (s .transfer .counter)
+pub counter-bytes : (s : State) → getD (imageOf s) counterLowPlace 0 + 256 * getD (imageOf s) counterMiddlePlace 0 + 65536 * getD (imageOf s) counterHighPlace 0 ≡ counterByte 0 (s .transfer .counter) + 256 * counterByte 1 (s .transfer .counter) + 65536 * counterByte 2 (s .transfer .counter)
 unfolding imageOf
 counter-bytes s = refl
 
@@ -56,37 +57,37 @@ module _ (v n : ℕ) (h : v < 256) where
   high-2 = omega arith
 
 -- three stores of a number's bytes
-bytes-as : (s : State) (n : ℕ) {a b c : ℕ} → a ≡ counterByte 0 n → b ≡ counterByte 1 n → c ≡ counterByte 2 n → set (set (set (imageOf s) 25 a) 26 b) 27 c ≡ imageOf (withCounter n s)
+bytes-as : (s : State) (n : ℕ) {a b c : ℕ} → a ≡ counterByte 0 n → b ≡ counterByte 1 n → c ≡ counterByte 2 n → set (set (set (imageOf s) counterLowPlace a) counterMiddlePlace b) counterHighPlace c ≡ imageOf (withCounter n s)
 bytes-as s n {a} {b} {c} e f g =
-    ap (λ (x : ℕ). set (set (set (imageOf s) 25 x) 26 b) 27 c) e
-    ∙ ap (λ (x : ℕ). set (set (set (imageOf s) 25 (counterByte 0 n)) 26 x) 27 c) f
-    ∙ ap (λ (x : ℕ). set (set (set (imageOf s) 25 (counterByte 0 n)) 26 (counterByte 1 n)) 27 x) g
+    ap (λ (x : ℕ). set (set (set (imageOf s) counterLowPlace x) counterMiddlePlace b) counterHighPlace c) e
+    ∙ ap (λ (x : ℕ). set (set (set (imageOf s) counterLowPlace (counterByte 0 n)) counterMiddlePlace x) counterHighPlace c) f
+    ∙ ap (λ (x : ℕ). set (set (set (imageOf s) counterLowPlace (counterByte 0 n)) counterMiddlePlace (counterByte 1 n)) counterHighPlace x) g
     ∙ stored s n
 
 module _ (s : State) (v : ℕ) (h : v < 256) where
-  low-stored : set (imageOf s) 25 v ≡ imageOf (counterWritten 0 v s)
+  low-stored : set (imageOf s) counterLowPlace v ≡ imageOf (counterWritten 0 v s)
   unfolding imageOf
   low-stored =
       let n : ℕ = s .transfer .counter in
       bytes-as s (counterWith 0 v n) (sym (low-0 v n h)) (sym (low-1 v n h)) (sym (low-2 v n h))
 
-  middle-stored : set (imageOf s) 26 v ≡ imageOf (counterWritten 1 v s)
+  middle-stored : set (imageOf s) counterMiddlePlace v ≡ imageOf (counterWritten 1 v s)
   unfolding imageOf
   middle-stored =
       let n : ℕ = s .transfer .counter in
       bytes-as s (counterWith 1 v n) (sym (middle-0 v n h)) (sym (middle-1 v n h)) (sym (middle-2 v n h))
 
-  high-stored : set (imageOf s) 27 v ≡ imageOf (counterWritten 2 v s)
+  high-stored : set (imageOf s) counterHighPlace v ≡ imageOf (counterWritten 2 v s)
   unfolding imageOf
   high-stored =
       let n : ℕ = s .transfer .counter in
       bytes-as s (counterWith 2 v n) (sym (high-0 v n h)) (sym (high-1 v n h)) (sym (high-2 v n h))
 
-ack-stored : (s : State) → set (imageOf s) 18 1 ≡ imageOf (withAck true s)
+ack-stored : (s : State) → set (imageOf s) ackPlace 1 ≡ imageOf (withAck true s)
 unfolding imageOf
 ack-stored s = refl
 
-offset-stored : (s : State) (n : ℕ) → set (imageOf s) 17 n ≡ imageOf (withOffset n s)
+offset-stored : (s : State) (n : ℕ) → set (imageOf s) offsetPlace n ≡ imageOf (withOffset n s)
 unfolding imageOf
 offset-stored s n = refl
 
@@ -112,14 +113,14 @@ behind-head : (s : State) → imageOf s ≡ headOf s ++ (padded 8 (s .transfer .
 unfolding imageOf
 behind-head s = append-assoc (headOf s ++ padded 8 (s .transfer .scsi)) (s .stack .bytes) (padded 128 (s .transfer .host)) ∙ append-assoc (headOf s) (padded 8 (s .transfer .scsi)) (s .stack .bytes ++ padded 128 (s .transfer .host))
 
-scsi-count : (s : State) → getD (imageOf s) 23 0 ≡ length (s .transfer .scsi)
+scsi-count : (s : State) → getD (imageOf s) scsiCountPlace 0 ≡ length (s .transfer .scsi)
 unfolding imageOf
 scsi-count s = refl
 
 no-count : (s : State) (q : List ℕ) → set (headOf s ++ q) 23 0 ≡ headOf (withScsi [] s) ++ q
 no-count s q = refl
 
-scsi-zeroed : (s : State) → Placed s → set (paste (imageOf s) 28 (replicate (length (s .transfer .scsi)) 0) (length (s .transfer .scsi))) 23 0 ≡ imageOf (withScsi [] s)
+scsi-zeroed : (s : State) → Placed s → set (paste (imageOf s) 28 (replicate (length (s .transfer .scsi)) 0) (length (s .transfer .scsi))) scsiCountPlace 0 ≡ imageOf (withScsi [] s)
 scsi-zeroed s p =
     let l : List ℕ = s .transfer .scsi in
     let n : ℕ = length l in
@@ -132,42 +133,42 @@ scsi-zeroed s p =
 
 -- an array of which it is known which state it is the image of
 module _ {m : List ℕ} (s : State) (e : m ≡ imageOf s) where
-  pub zeroed : set (set (set m 25 0) 26 0) 27 0 ≡ imageOf (withCounter 0 s)
+  pub zeroed : set (set (set m counterLowPlace 0) counterMiddlePlace 0) counterHighPlace 0 ≡ imageOf (withCounter 0 s)
   zeroed = ap (λ (y : List ℕ). set (set (set y 25 0) 26 0) 27 0) e ∙ stored s 0
 
-  pub low : (v : ℕ) → v < 256 → set m 25 v ≡ imageOf (counterWritten 0 v s)
+  pub low : (v : ℕ) → v < 256 → set m counterLowPlace v ≡ imageOf (counterWritten 0 v s)
   low v h = ap (λ (y : List ℕ). set y 25 v) e ∙ low-stored s v h
 
-  pub middle : (v : ℕ) → v < 256 → set m 26 v ≡ imageOf (counterWritten 1 v s)
+  pub middle : (v : ℕ) → v < 256 → set m counterMiddlePlace v ≡ imageOf (counterWritten 1 v s)
   middle v h = ap (λ (y : List ℕ). set y 26 v) e ∙ middle-stored s v h
 
-  pub high : (v : ℕ) → v < 256 → set m 27 v ≡ imageOf (counterWritten 2 v s)
+  pub high : (v : ℕ) → v < 256 → set m counterHighPlace v ≡ imageOf (counterWritten 2 v s)
   high v h = ap (λ (y : List ℕ). set y 27 v) e ∙ high-stored s v h
 
-  pub on : set m 18 1 ≡ imageOf (withAck true s)
+  pub on : set m ackPlace 1 ≡ imageOf (withAck true s)
   on = ap (λ (y : List ℕ). set y 18 1) e ∙ ack-stored s
 
-  pub no-offset : set m 17 0 ≡ imageOf (withOffset 0 s)
+  pub no-offset : set m offsetPlace 0 ≡ imageOf (withOffset 0 s)
   no-offset = ap (λ (y : List ℕ). set y 17 0) e ∙ offset-stored s 0
 
   module _ (p : Placed s) where
-    pub number : getD m 25 0 + 256 * getD m 26 0 + 65536 * getD m 27 0 ≡ s .transfer .counter
+    pub number : getD m counterLowPlace 0 + 256 * getD m counterMiddlePlace 0 + 65536 * getD m counterHighPlace 0 ≡ s .transfer .counter
     number = ap (λ (y : List ℕ). getD y 25 0 + 256 * getD y 26 0 + 65536 * getD y 27 0) e ∙ counter-bytes s ∙ bytes-joined (s .transfer .counter) (p .counter)
 
-    pub more : {k n a b c : ℕ} → k ≡ getD m 25 0 + 256 * getD m 26 0 + 65536 * getD m 27 0 → n ≡ counted k → a ≡ counterByte 0 n → b ≡ counterByte 1 n → c ≡ counterByte 2 n → set (set (set m 25 a) 26 b) 27 c ≡ imageOf (counterCounted s)
+    pub more : {k n a b c : ℕ} → k ≡ getD m counterLowPlace 0 + 256 * getD m counterMiddlePlace 0 + 65536 * getD m counterHighPlace 0 → n ≡ counted k → a ≡ counterByte 0 n → b ≡ counterByte 1 n → c ≡ counterByte 2 n → set (set (set m counterLowPlace a) counterMiddlePlace b) counterHighPlace c ≡ imageOf (counterCounted s)
     more {k} {n} {a} {b} {c} f g i j l =
         let q : n ≡ counted (s .transfer .counter) = g ∙ ap counted (f ∙ number) in
         ap (λ (y : List ℕ). set (set (set y 25 a) 26 b) 27 c) e ∙ bytes-as s n i j l ∙ ap (λ (x : ℕ). imageOf (withCounter x s)) q
 
-    pub scsi-counted : getD m 23 0 ≡ length (s .transfer .scsi)
+    pub scsi-counted : getD m scsiCountPlace 0 ≡ length (s .transfer .scsi)
     scsi-counted = ap (λ (y : List ℕ). getD y 23 0) e ∙ scsi-count s
 
-    pub scsi-fits : getD m 23 0 ≤ 8
+    pub scsi-fits : getD m scsiCountPlace 0 ≤ 8
     scsi-fits = omega (arith, scsi-counted, p .scsi)
 
-    pub no-scsi : {a : List ℕ} → a ≡ paste m 28 (replicate (getD m 23 0) 0) (getD m 23 0) → set a 23 0 ≡ imageOf (withScsi [] s)
+    pub no-scsi : {a : List ℕ} → a ≡ paste m 28 (replicate (getD m scsiCountPlace 0) 0) (getD m scsiCountPlace 0) → set a 23 0 ≡ imageOf (withScsi [] s)
     no-scsi f =
         ap (λ (y : List ℕ). set y 23 0) f
-        ∙ ap (λ (j : ℕ). set (paste m 28 (replicate j 0) j) 23 0) scsi-counted
+        ∙ ap (λ (j : ℕ). set (paste m 28 (replicate j 0) j) scsiCountPlace 0) scsi-counted
         ∙ ap (λ (y : List ℕ). set (paste y 28 (replicate (length (s .transfer .scsi)) 0) (length (s .transfer .scsi))) 23 0) e
         ∙ scsi-zeroed s p

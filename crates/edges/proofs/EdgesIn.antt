@@ -11,6 +11,7 @@ use Rattle.rules.specs.StepB.{parityBad, beyondLimit, lateByte}
 use Rattle.edges.specs.Parts.{registersB}
 use Rattle.edges.specs.declared.edges.Edges.{Edges}
 use Rattle.image.specs.Image.{stateAt, IsImage}
+use Rattle.image.specs.Layout.{scsiCountPlace}
 use Rattle.edges.specs.Inbound.{inboundEven}
 use Rattle.edges.specs.From.{rstRisesFrom, reqRisesFrom, synchronousReqFrom, quietFrom, edgesFrom}
 use Rattle.edges.proofs.Laws.{and-not, inbound-checked}
@@ -75,6 +76,6 @@ edges-of : (s : State) (rst req : Bool) (ticks : ℕ) → edgesIn s (length (s .
 unfolding edgesFrom rstRisesFrom reqRisesFrom synchronousReqFrom quietFrom parityBad beyondLimit lateByte edgesIn resetIn risesIn badIn callIn beyondIn lateIn quietIn
 edges-of s rst req ticks = rw (inbound-checked (s .registers) (s .lines) (s .transfer), and-not)
 
-pub edges-in : (m : List ℕ) (rst req : Bool) (ticks : ℕ) → IsImage m → edgesIn (stateAt m) (getD m 23 0) rst req ticks ≡ edgesFrom rst req (stateAt m) ticks
+pub edges-in : (m : List ℕ) (rst req : Bool) (ticks : ℕ) → IsImage m → edgesIn (stateAt m) (getD m scsiCountPlace 0) rst req ticks ≡ edgesFrom rst req (stateAt m) ticks
 edges-in m rst req ticks i =
     ap (λ (n : ℕ). edgesIn (stateAt m) n rst req ticks) (held-of m (stateAt m) (i .packed)) ∙ edges-of (stateAt m) rst req ticks

@@ -13,6 +13,7 @@ use Rattle.rules.specs.declared.records.Lines.{Lines}
 use Rattle.edges.specs.declared.edges.Edges.{Edges}
 use Rattle.rules.specs.Changed.{withTransfer, withStatus, withQuiet}
 use Rattle.image.specs.Image.{imageOf, stateAt, registersAt, linesAt}
+use Rattle.image.specs.Layout.{offsetPlace, scsiCountPlace}
 use Rattle.edges.specs.From.{rstRisesFrom, reqRisesFrom, synchronousReqFrom, quietFrom, edgesFrom, appliedFrom}
 use Rattle.edges.specs.Parts.{registersB, transferB, statusB, storedB, countedB}
 use Rattle.edges.specs.Frequent.{raisedB, phaseB, inboundB, callB, risenB, releasedB, initB, reqB}
@@ -60,7 +61,7 @@ pub phase-as : (was : Bool) (s : State) {seen : Bool} → was ≡ false → seen
 phase-as was s e f = rw (e, f, and-true)
 
 -- an inbound byte, where IO is seen
-pub late-at : (m : List ℕ) (s : State) → m ≡ imageOf s → s .lines .io ≡ true → (eqb (getD m 17 0) 0 && ltb 0 (getD m 23 0)) ≡ lateByte s
+pub late-at : (m : List ℕ) (s : State) → m ≡ imageOf s → s .lines .io ≡ true → (eqb (getD m offsetPlace 0) 0 && ltb 0 (getD m scsiCountPlace 0)) ≡ lateByte s
 unfolding lateByte
 late-at m s e h = rw (h, offset-of m s e, held-of m s e)
 
@@ -79,10 +80,10 @@ uncounted call s e = rw e
 pub counted : (call : Bool) (s : State) → (call && not (beyondLimit s)) ≡ true → withTransfer (countedB false true false ((inboundB true s) .transfer)) (inboundB true s) ≡ risenB call s
 counted call s e = rw e
 
-pub beyond-at : (m : List ℕ) → m ≡ imageOf (stateAt m) → {b : Bool} → b ≡ (leb (limit (registersAt m)) (getD m 17 0) || ((linesAt m) .io && leb 8 (getD m 23 0))) → b ≡ beyondLimit (stateAt m)
+pub beyond-at : (m : List ℕ) → m ≡ imageOf (stateAt m) → {b : Bool} → b ≡ (leb (limit (registersAt m)) (getD m offsetPlace 0) || ((linesAt m) .io && leb 8 (getD m scsiCountPlace 0))) → b ≡ beyondLimit (stateAt m)
 unfolding beyondLimit stateAt
 beyond-at m e f =
-    f ∙ ap (λ (n : ℕ). leb (limit (registersAt m)) (getD m 17 0) || ((linesAt m) .io && leb 8 n)) (held-of m (stateAt m) e)
+    f ∙ ap (λ (n : ℕ). leb (limit (registersAt m)) (getD m offsetPlace 0) || ((linesAt m) .io && leb 8 n)) (held-of m (stateAt m) e)
 
 -- REQ, by what it was and is
 module _ (was : Bool) (s : State) where

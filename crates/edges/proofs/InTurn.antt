@@ -11,6 +11,7 @@ use Rattle.rules.specs.StepB.{parityBad, beyondLimit}
 use Rattle.edges.specs.Parts.{registersB}
 use Rattle.rules.specs.Changed.{withQuiet}
 use Rattle.image.specs.Image.{imageOf, stateAt, registersAt, linesAt}
+use Rattle.image.specs.Layout.{quietPlace}
 use Rattle.edges.specs.Inbound.{inboundEven}
 use Rattle.edges.specs.From.{rstRisesFrom, reqRisesFrom, synchronousReqFrom, quietFrom, edgesFrom, appliedFrom}
 use Rattle.edges.specs.Frequent.{phaseB, reqB}
@@ -24,7 +25,7 @@ module _ (m : List ℕ) (rst req : Bool) (ticks : ℕ) where
   unfolding rstRisesFrom stateAt
   no-reset e f = sym e ∙ f
 
-  pub quiet-is : {q : ℕ} → rstRisesFrom rst (stateAt m) ≡ false → q ≡ cond (bsySeen (registersB false false false (registersAt m)) (linesAt m) || selSeen (registersB false false false (registersAt m)) (linesAt m)) 0 (min 8 (getD m 20 0 + ticks)) → q ≡ quietFrom rst (stateAt m) ticks
+  pub quiet-is : {q : ℕ} → rstRisesFrom rst (stateAt m) ≡ false → q ≡ cond (bsySeen (registersB false false false (registersAt m)) (linesAt m) || selSeen (registersB false false false (registersAt m)) (linesAt m)) 0 (min 8 (getD m quietPlace 0 + ticks)) → q ≡ quietFrom rst (stateAt m) ticks
   unfolding quietFrom stateAt
   quiet-is a e = rw a e
 
@@ -32,7 +33,7 @@ module _ (m : List ℕ) (rst req : Bool) (ticks : ℕ) where
   unfolding reqRisesFrom parityBad stateAt
   no-error e f = rw (inbound-checked ((stateAt m) .registers) ((stateAt m) .lines) ((stateAt m) .transfer)) (sym e ∙ f)
 
-  pub not-free : {q : ℕ} → q ≡ quietFrom rst (stateAt m) ticks → (leb 8 q && not (leb 8 (getD m 20 0))) ≡ false → (leb 8 (quietFrom rst (stateAt m) ticks) && not (leb 8 ((stateAt m) .quiet))) ≡ false
+  pub not-free : {q : ℕ} → q ≡ quietFrom rst (stateAt m) ticks → (leb 8 q && not (leb 8 (getD m quietPlace 0))) ≡ false → (leb 8 (quietFrom rst (stateAt m) ticks) && not (leb 8 ((stateAt m) .quiet))) ≡ false
   unfolding stateAt
   not-free e f = rw e at f
 
@@ -41,13 +42,13 @@ module _ (m : List ℕ) (packed : m ≡ imageOf (stateAt m)) (q : ℕ) where
   quiet-again : stateAt (imageOf (withQuiet q (stateAt m))) ≡ withQuiet q (stateAt m)
   quiet-again = quiet-back (stateAt m) q (ap stateAt (sym packed))
 
-  quieted-back : stateAt (set m 20 q) ≡ withQuiet q (stateAt m)
+  quieted-back : stateAt (set m quietPlace q) ≡ withQuiet q (stateAt m)
   quieted-back = ap stateAt (quiet-placed m q (stateAt m) packed) ∙ quiet-again
 
-  pub quieted : set m 20 q ≡ imageOf (stateAt (set m 20 q))
+  pub quieted : set m quietPlace q ≡ imageOf (stateAt (set m quietPlace q))
   quieted = packed-as (withQuiet q (stateAt m)) (quiet-placed m q (stateAt m) packed) quieted-back
 
-module _ (m : List ℕ) (packed : m ≡ imageOf (stateAt m)) (was : Bool) (q : ℕ) {n : List ℕ} (then : n ≡ imageOf (phaseB was (stateAt (set m 20 q)))) where
+module _ (m : List ℕ) (packed : m ≡ imageOf (stateAt m)) (was : Bool) (q : ℕ) {n : List ℕ} (then : n ≡ imageOf (phaseB was (stateAt (set m quietPlace q)))) where
   abbrev t : State
   t = phaseB was (withQuiet q (stateAt m))
 

@@ -20,6 +20,7 @@ use Rattle.edges.specs.declared.edges.Edges.{Edges}
 use Rattle.rules.specs.Changed.{withRegisters, withTransfer, withStatus, withQuiet}
 use Rattle.image.specs.Image.{imageOf, stateAt, IsImage, headOf, scsisigByte, statusOf, statusByte}
 use Rattle.image.proofs.EightBits.{is-one, bit-0, bit-1, bit-2, bit-3, bit-4, bit-5, bit-6, bit-7}
+use Rattle.image.specs.Layout.{ackPlace, offsetPlace, quietPlace, scsiBytesPlace, scsiCountPlace, scsiseqPlace, scsisigPlace, statusPlace, sxfrctl0Place}
 use Rattle.laws.proofs.Lists.{padded-push, padded-length}
 use Rattle.edges.specs.Parts.{scsiseqB, sxfrctl0B, scsisigB, registersB, transferB, storedB, countedB}
 use Rattle.edges.specs.Room.{Room}
@@ -40,36 +41,36 @@ status-round : (t : Status) → statusOf (statusByte t) ≡ t
 status-round t = rw (bit-7, bit-6, bit-5, bit-4, bit-3, bit-2, bit-1, bit-0)
 
 module _ (s : State) where
-  pub seq-at : scsiseqOf (getD (imageOf s) 0 0) ≡ s .registers .scsiseq
+  pub seq-at : scsiseqOf (getD (imageOf s) scsiseqPlace 0) ≡ s .registers .scsiseq
   unfolding imageOf
   seq-at = seq-round (s .registers .scsiseq)
 
-  control-at : sxfrctl0Of (getD (imageOf s) 1 0) ≡ s .registers .sxfrctl0
+  control-at : sxfrctl0Of (getD (imageOf s) sxfrctl0Place 0) ≡ s .registers .sxfrctl0
   unfolding imageOf
   control-at = control-round (s .registers .sxfrctl0)
 
-  pub sig-at : scsisigOf false (getD (imageOf s) 3 0) ≡ s .registers .scsisig
+  pub sig-at : scsisigOf false (getD (imageOf s) scsisigPlace 0) ≡ s .registers .scsisig
   unfolding imageOf
   sig-at = sig-round (s .registers .scsisig)
 
-  status-at : statusOf (getD (imageOf s) 12 0) ≡ s .status
+  status-at : statusOf (getD (imageOf s) statusPlace 0) ≡ s .status
   unfolding imageOf
   status-at = status-round (s .status)
 
-  pub held-at : getD (imageOf s) 23 0 ≡ length (s .transfer .scsi)
+  pub held-at : getD (imageOf s) scsiCountPlace 0 ≡ length (s .transfer .scsi)
   unfolding imageOf
   held-at = refl
 
-  pub offset-at : getD (imageOf s) 17 0 ≡ s .transfer .offset
+  pub offset-at : getD (imageOf s) offsetPlace 0 ≡ s .transfer .offset
   unfolding imageOf
   offset-at = refl
 
-  ack-at : eqb (getD (imageOf s) 18 0) 1 ≡ s .transfer .ack
+  ack-at : eqb (getD (imageOf s) ackPlace 0) 1 ≡ s .transfer .ack
   unfolding imageOf
   ack-at = is-one (s .transfer .ack)
 
 -- the registers that B changes, in their places
-registers-set : (s : State) (reset bad free : Bool) {q : Scsiseq} {x : Sxfrctl0} {g : Scsisig} → q ≡ s .registers .scsiseq → x ≡ s .registers .sxfrctl0 → g ≡ s .registers .scsisig → set (set (set (imageOf s) 0 (scsiseqByte (scsiseqB reset q))) 1 (sxfrctl0Byte (sxfrctl0B reset x))) 3 (scsisigByte (scsisigB (reset || free) (bad && q .enautoatnp) g)) ≡ imageOf (withRegisters (registersB reset bad free (s .registers)) s)
+registers-set : (s : State) (reset bad free : Bool) {q : Scsiseq} {x : Sxfrctl0} {g : Scsisig} → q ≡ s .registers .scsiseq → x ≡ s .registers .sxfrctl0 → g ≡ s .registers .scsisig → set (set (set (imageOf s) scsiseqPlace (scsiseqByte (scsiseqB reset q))) sxfrctl0Place (sxfrctl0Byte (sxfrctl0B reset x))) scsisigPlace (scsisigByte (scsisigB (reset || free) (bad && q .enautoatnp) g)) ≡ imageOf (withRegisters (registersB reset bad free (s .registers)) s)
 unfolding imageOf registersB
 registers-set s reset bad free a b d = rw (a, b, d)
 
@@ -102,44 +103,44 @@ scsi-split s = regroup (headOf s) (padded 8 (s .transfer .scsi)) (s .stack .byte
 head-length : (s : State) → length (headOf s) ≡ 28
 head-length s = refl
 
-scsi-stored : (s : State) (b : ℕ) → length (s .transfer .scsi) < 8 → set (imageOf s) (28 + length (s .transfer .scsi)) b ≡ headOf s ++ padded 8 (s .transfer .scsi ++ (b ∷ [])) ++ s .stack .bytes ++ padded 128 (s .transfer .host)
+scsi-stored : (s : State) (b : ℕ) → length (s .transfer .scsi) < 8 → set (imageOf s) (scsiBytesPlace + length (s .transfer .scsi)) b ≡ headOf s ++ padded 8 (s .transfer .scsi ++ (b ∷ [])) ++ s .stack .bytes ++ padded 128 (s .transfer .host)
 scsi-stored s b h =
     let l : List ℕ = s .transfer .scsi in
     let z : List ℕ = s .stack .bytes ++ padded 128 (s .transfer .host) in
     let n : length (padded 8 l) ≡ 8 = padded-length 8 l (omega arith) in
     let k : length l < length (padded 8 l) = rw n h in
-    ap (λ (m : List ℕ). set m (28 + length l) b) (scsi-split s)
+    ap (λ (m : List ℕ). set m (scsiBytesPlace + length l) b) (scsi-split s)
     ∙ ap (λ (j : ℕ). set (headOf s ++ (padded 8 l ++ z)) (j + length l) b) (sym (head-length s))
     ∙ set-past (headOf s) (padded 8 l ++ z) (length l) b
     ∙ ap (λ (y : List ℕ). headOf s ++ y) (set-append-left (padded 8 l) z (length l) b k ∙ ap (λ (p : List ℕ). p ++ z) (padded-push 8 l b h))
     ∙ sym (regroup (headOf s) (padded 8 (l ++ (b ∷ []))) (s .stack .bytes) (padded 128 (s .transfer .host)))
 
-pub scsi-set : (s : State) (b : ℕ) → length (s .transfer .scsi) < 8 → set (set (imageOf s) (28 + length (s .transfer .scsi)) b) 23 (length (s .transfer .scsi) + 1) ≡ imageOf (withTransfer (storedB true b (s .transfer)) s)
+pub scsi-set : (s : State) (b : ℕ) → length (s .transfer .scsi) < 8 → set (set (imageOf s) (scsiBytesPlace + length (s .transfer .scsi)) b) scsiCountPlace (length (s .transfer .scsi) + 1) ≡ imageOf (withTransfer (storedB true b (s .transfer)) s)
 scsi-set s b h =
     let l : List ℕ = s .transfer .scsi in
     let n : length l + 1 ≡ length (l ++ (b ∷ [])) = sym (length-append l (b ∷ [])) in
-    ap (λ (m : List ℕ). set m 23 (length l + 1)) (scsi-stored s b h)
+    ap (λ (m : List ℕ). set m scsiCountPlace (length l + 1)) (scsi-stored s b h)
     ∙ ap (λ (j : ℕ). set (headOf s ++ padded 8 (l ++ (b ∷ [])) ++ s .stack .bytes ++ padded 128 (s .transfer .host)) 23 j) n
     ∙ scsi-image s b
 
 abbrev storedBehind : ℕ → ℕ → List ℕ → List ℕ
-storedBehind held b m = set (set m (28 + held) b) 23 (held + 1)
+storedBehind held b m = set (set m (scsiBytesPlace + held) b) scsiCountPlace (held + 1)
 
-pub held-of : (m : List ℕ) (s : State) → m ≡ imageOf s → getD m 23 0 ≡ length (s .transfer .scsi)
+pub held-of : (m : List ℕ) (s : State) → m ≡ imageOf s → getD m scsiCountPlace 0 ≡ length (s .transfer .scsi)
 held-of m s e = ap (λ (l : List ℕ). getD l 23 0) e ∙ held-at s
 
-pub scsi-placed : {m n : List ℕ} (b : ℕ) (s : State) → getD m 23 0 < 8 → m ≡ imageOf s → n ≡ byteStored b m → n ≡ imageOf (withTransfer (storedB true b (s .transfer)) s)
+pub scsi-placed : {m n : List ℕ} (b : ℕ) (s : State) → getD m scsiCountPlace 0 < 8 → m ≡ imageOf s → n ≡ byteStored b m → n ≡ imageOf (withTransfer (storedB true b (s .transfer)) s)
 scsi-placed {m} b s h e f =
-    let k : getD m 23 0 ≡ length (s .transfer .scsi) = held-of m s e in
+    let k : getD m scsiCountPlace 0 ≡ length (s .transfer .scsi) = held-of m s e in
     let i : length (s .transfer .scsi) < 8 = rw k at h in
     f ∙ ap (λ (j : ℕ). storedBehind j b m) k ∙ ap (λ (l : List ℕ). storedBehind (length (s .transfer .scsi)) b l) e ∙ scsi-set s b i
 
-stored-placed : {m n : List ℕ} (stored : Bool) (b : ℕ) (s : State) → (stored ≡ true → getD m 23 0 < 8) → m ≡ imageOf s → n ≡ cond stored (byteStored b m) m → n ≡ imageOf (withTransfer (storedB stored b (s .transfer)) s)
+stored-placed : {m n : List ℕ} (stored : Bool) (b : ℕ) (s : State) → (stored ≡ true → getD m scsiCountPlace 0 < 8) → m ≡ imageOf s → n ≡ cond stored (byteStored b m) m → n ≡ imageOf (withTransfer (storedB stored b (s .transfer)) s)
 stored-placed true b s h e f = scsi-placed b s (h refl) e f
 stored-placed false b s h e f = f ∙ e
 
 -- the offset and the automatic ACK in their places
-counted-set : (s : State) (zeroed counted released : Bool) {o : ℕ} {k : Bool} → o ≡ s .transfer .offset → k ≡ s .transfer .ack → set (set (imageOf s) 17 (cond zeroed 0 (cond counted (o + 1) o))) 18 (one (not released && k)) ≡ imageOf (withTransfer (countedB zeroed counted released (s .transfer)) s)
+counted-set : (s : State) (zeroed counted released : Bool) {o : ℕ} {k : Bool} → o ≡ s .transfer .offset → k ≡ s .transfer .ack → set (set (imageOf s) offsetPlace (cond zeroed 0 (cond counted (o + 1) o))) ackPlace (one (not released && k)) ≡ imageOf (withTransfer (countedB zeroed counted released (s .transfer)) s)
 unfolding imageOf
 counted-set s zeroed counted released a b = rw (a, b)
 
@@ -148,15 +149,15 @@ counted-placed zeroed counted released s e f =
     f ∙ ap (λ (l : List ℕ). countStored zeroed counted released l) e
     ∙ counted-set s zeroed counted released (offset-at s) (ack-at s)
 
-pub offset-of : (m : List ℕ) (s : State) → m ≡ imageOf s → getD m 17 0 ≡ s .transfer .offset
+pub offset-of : (m : List ℕ) (s : State) → m ≡ imageOf s → getD m offsetPlace 0 ≡ s .transfer .offset
 offset-of m s e = ap (λ (l : List ℕ). getD l 17 0) e ∙ offset-at s
 
-pub room-after : {m : List ℕ} (stored : Bool) (b : ℕ) (s : State) → m ≡ imageOf (withTransfer (storedB stored b (s .transfer)) s) → s .transfer .offset < 8 → getD m 17 0 < 8
+pub room-after : {m : List ℕ} (stored : Bool) (b : ℕ) (s : State) → m ≡ imageOf (withTransfer (storedB stored b (s .transfer)) s) → s .transfer .offset < 8 → getD m offsetPlace 0 < 8
 room-after {m} stored b s e h = rw (offset-of m (withTransfer (storedB stored b (s .transfer)) s) e) h
 
 -- the SCSI FIFO's part of the data path: a byte that is stored has a place
 module _ {g : Edges} {m : List ℕ} (byte : ℕ) (i : IsImage m) (room : Room g ((stateAt m) .transfer)) where
-  pub place-of : g .stored ≡ true → getD m 23 0 < 8
+  pub place-of : g .stored ≡ true → getD m scsiCountPlace 0 < 8
   place-of h = rw (held-of m (stateAt m) (i .packed)) (room .stored h)
 
   pub path-stored : {n : List ℕ} → n ≡ cond (g .stored) (byteStored byte m) m → n ≡ imageOf (withTransfer (storedB (g .stored) byte ((stateAt m) .transfer)) (stateAt m))
@@ -168,23 +169,23 @@ unfolding transferB
 path-parts g byte s = refl
 
 -- the status in its place, changed by a part of B
-status-set : (s : State) (part : Status → Status) {t : Status} → t ≡ s .status → set (imageOf s) 12 (statusByte (part t)) ≡ imageOf (withStatus (part (s .status)) s)
+status-set : (s : State) (part : Status → Status) {t : Status} → t ≡ s .status → set (imageOf s) statusPlace (statusByte (part t)) ≡ imageOf (withStatus (part (s .status)) s)
 unfolding imageOf
 status-set s part a = rw a
 
 pub status-placed : {m n : List ℕ} (part : Status → Status) (s : State) → m ≡ imageOf s → n ≡ statusStored part m → n ≡ imageOf (withStatus (part (s .status)) s)
 status-placed part s e f = f ∙ ap (λ (l : List ℕ). statusStored part l) e ∙ status-set s part (status-at s)
 
-pub quiet-placed : (m : List ℕ) (n : ℕ) (s : State) → m ≡ imageOf s → set m 20 n ≡ imageOf (withQuiet n s)
+pub quiet-placed : (m : List ℕ) (n : ℕ) (s : State) → m ≡ imageOf s → set m quietPlace n ≡ imageOf (withQuiet n s)
 unfolding imageOf
 quiet-placed m n s e = ap (λ (l : List ℕ). set l 20 n) e
 
 -- one REQ more, and the automatic ACK released
-pub offset-placed : (m : List ℕ) (s : State) {offset : ℕ} → offset ≡ s .transfer .offset → m ≡ imageOf s → set m 17 (offset + 1) ≡ imageOf (withTransfer (countedB false true false (s .transfer)) s)
+pub offset-placed : (m : List ℕ) (s : State) {offset : ℕ} → offset ≡ s .transfer .offset → m ≡ imageOf s → set m offsetPlace (offset + 1) ≡ imageOf (withTransfer (countedB false true false (s .transfer)) s)
 unfolding imageOf
 offset-placed m s e f = rw e (ap (λ (l : List ℕ). set l 17 (s .transfer .offset + 1)) f)
 
-pub ack-placed : (m : List ℕ) (s : State) → m ≡ imageOf s → set m 18 0 ≡ imageOf (withTransfer (countedB false false true (s .transfer)) s)
+pub ack-placed : (m : List ℕ) (s : State) → m ≡ imageOf s → set m ackPlace 0 ≡ imageOf (withTransfer (countedB false false true (s .transfer)) s)
 unfolding imageOf
 ack-placed m s e = ap (λ (l : List ℕ). set l 18 0) e
 

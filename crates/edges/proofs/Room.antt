@@ -11,6 +11,7 @@ use Rattle.rules.specs.State.{State}
 use Rattle.rules.specs.Seen.{ioSeen, limit}
 use Rattle.rules.specs.StepB.{beyondLimit}
 use Rattle.image.specs.Image.{registersAt, linesAt}
+use Rattle.image.specs.Layout.{offsetPlace, scsiCountPlace}
 use Rattle.edges.specs.From.{synchronousReqFrom, edgesFrom}
 use Rattle.edges.specs.Room.{Room}
 
@@ -41,12 +42,12 @@ module _ (rst req : Bool) (s : State) (ticks : ℕ) where
   room-from = record { counted = offset-room; stored = scsi-room }
 
 -- the same, of the bytes of an array
-module _ (m : List ℕ) {b : Bool} (e : b ≡ (leb (limit (registersAt m)) (getD m 17 0) || ((linesAt m) .io && leb 8 (getD m 23 0)))) (f : b ≡ false) where
-  pub count-left : getD m 17 0 < 8
+module _ (m : List ℕ) {b : Bool} (e : b ≡ (leb (limit (registersAt m)) (getD m offsetPlace 0) || ((linesAt m) .io && leb 8 (getD m scsiCountPlace 0)))) (f : b ≡ false) where
+  pub count-left : getD m offsetPlace 0 < 8
   unfolding limit
   count-left =
-      omega (arith, leb-false (limit (registersAt m)) (getD m 17 0) (counted-room true _ ((linesAt m) .io && leb 8 (getD m 23 0)) (ap not (sym e ∙ f))))
+      omega (arith, leb-false (limit (registersAt m)) (getD m offsetPlace 0) (counted-room true _ ((linesAt m) .io && leb 8 (getD m scsiCountPlace 0)) (ap not (sym e ∙ f))))
 
-  pub place-left : (linesAt m) .io ≡ true → getD m 23 0 < 8
+  pub place-left : (linesAt m) .io ≡ true → getD m scsiCountPlace 0 < 8
   place-left h =
-      leb-false 8 (getD m 23 0) (stored-room true (leb (limit (registersAt m)) (getD m 17 0)) ((linesAt m) .io) (leb 8 (getD m 23 0)) (rw (← e, f) h))
+      leb-false 8 (getD m scsiCountPlace 0) (stored-room true (leb (limit (registersAt m)) (getD m offsetPlace 0)) ((linesAt m) .io) (leb 8 (getD m scsiCountPlace 0)) (rw (← e, f) h))

@@ -15,6 +15,7 @@ use Rattle.edges.specs.declared.edges.Edges.{Edges}
 use Rattle.rules.proofs.Logic.{left-true, right-true}
 use Rattle.rules.specs.Changed.{withQuiet}
 use Rattle.image.specs.Image.{imageOf, stateAt, registersAt, linesAt, IsImage}
+use Rattle.image.specs.Layout.{controlPlace, quietPlace, scsiseqPlace, scsisigPlace, upperPlace}
 use Rattle.edges.specs.declared.last.Seen.{Seen}
 use Rattle.edges.specs.From.{rstRisesFrom, reqRisesFrom, synchronousReqFrom, quietFrom, edgesFrom, appliedFrom}
 use Rattle.edges.specs.Since.{seenOf, rstOf, reqOf, mismatchedOf}
@@ -34,20 +35,20 @@ unfolding mismatchedOf mismatched connected matched bsySeen selSeen rstSeen
 mismatched-of m = refl
 
 -- the four bytes, compared
-pub same-bytes : (m : List ℕ) (x : Seen) → (eqb (getD m 16 0) (x .control) && eqb (getD m 3 0) (x .sig) && eqb (getD m 15 0) (x .upper) && eqb (getD m 0 0) (x .seq)) ≡ true → seenOf m ≡ x
+pub same-bytes : (m : List ℕ) (x : Seen) → (eqb (getD m controlPlace 0) (x .control) && eqb (getD m scsisigPlace 0) (x .sig) && eqb (getD m upperPlace 0) (x .upper) && eqb (getD m scsiseqPlace 0) (x .seq)) ≡ true → seenOf m ≡ x
 same-bytes m x h =
-    let a = eqb (getD m 16 0) (x .control) in
-    let b = eqb (getD m 3 0) (x .sig) in
-    let c = eqb (getD m 15 0) (x .upper) in
-    let d = eqb (getD m 0 0) (x .seq) in
+    let a = eqb (getD m controlPlace 0) (x .control) in
+    let b = eqb (getD m scsisigPlace 0) (x .sig) in
+    let c = eqb (getD m upperPlace 0) (x .upper) in
+    let d = eqb (getD m scsiseqPlace 0) (x .seq) in
     let h3 : (a && b && c) ≡ true = left-true (a && b && c) d h in
     let h2 : (a && b) ≡ true = left-true (a && b) c h3 in
     λ i.
     record {
-      seq = eqb-true (getD m 0 0) (x .seq) (right-true (a && b && c) d h) i;
-      sig = eqb-true (getD m 3 0) (x .sig) (right-true a b h2) i;
-      upper = eqb-true (getD m 15 0) (x .upper) (right-true (a && b) c h3) i;
-      control = eqb-true (getD m 16 0) (x .control) (left-true a b h2) i;
+      seq = eqb-true (getD m scsiseqPlace 0) (x .seq) (right-true (a && b && c) d h) i;
+      sig = eqb-true (getD m scsisigPlace 0) (x .sig) (right-true a b h2) i;
+      upper = eqb-true (getD m upperPlace 0) (x .upper) (right-true (a && b) c h3) i;
+      control = eqb-true (getD m controlPlace 0) (x .control) (left-true a b h2) i;
     }
 
 and-not : (a : Bool) → (a && not a) ≡ false
@@ -121,7 +122,7 @@ module _ (m : List ℕ) (g : IsImage m) (x : Seen) (e : seenOf m ≡ x) {ticks :
   pub seen-beyond : false ≡ (edgesFrom (rstOf x) (reqOf x) s ticks) .beyond
   seen-beyond = still-beyond s ∙ (λ i. (edgesFrom (rst-is i) (req-is i) s (sym t i)) .beyond)
 
-  pub seen-applied : {q : ℕ} → q ≡ cond (bsySeen (registersB false false false (registersAt m)) (linesAt m) || selSeen (registersB false false false (registersAt m)) (linesAt m)) 0 (min 8 (getD m 20 0 + 0)) → set m 20 q ≡ imageOf (appliedFrom (edgesFrom (rstOf x) (reqOf x) s ticks) (mismatchedOf x) s)
+  pub seen-applied : {q : ℕ} → q ≡ cond (bsySeen (registersB false false false (registersAt m)) (linesAt m) || selSeen (registersB false false false (registersAt m)) (linesAt m)) 0 (min 8 (getD m quietPlace 0 + 0)) → set m quietPlace q ≡ imageOf (appliedFrom (edgesFrom (rstOf x) (reqOf x) s ticks) (mismatchedOf x) s)
   unfolding stateAt
   seen-applied {q} h =
       quiet-placed m q s (g .packed)
@@ -133,7 +134,7 @@ module _ (m : List ℕ) (g : IsImage m) (x : Seen) (e : seenOf m ≡ x) {ticks :
   pub seen-unchanged : (bsySeen (registersB false false false (registersAt m)) (linesAt m) || selSeen (registersB false false false (registersAt m)) (linesAt m)) ≡ false → m ≡ imageOf (appliedFrom (edgesFrom (rstOf x) (reqOf x) s ticks) (mismatchedOf x) s)
   unfolding stateAt
   seen-unchanged h =
-      let q : getD m 20 0 ≡ min 8 (getD m 20 0 + 0) = omega (arith, g .range .quiet) in
+      let q : getD m quietPlace 0 ≡ min 8 (getD m quietPlace 0 + 0) = omega (arith, g .range .quiet) in
       g .packed
       ∙ ap (λ (n : ℕ). imageOf (withQuiet n s)) (rw h q ∙ quiet-still s)
       ∙ ap imageOf (sym (still-applied s))

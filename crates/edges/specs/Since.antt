@@ -5,14 +5,15 @@ use mathlib.Core.List.{List}
 use lib.ListN.{getD, set, replicate}
 use Rattle.rules.specs.Seen.{rstSeen, reqSeen, mismatched}
 use Rattle.image.specs.Image.{registersAt, linesAt}
+use Rattle.image.specs.Layout.{controlPlace, imageSize, scsiseqPlace, scsisigPlace, upperPlace}
 use Rattle.edges.specs.declared.last.Seen.{Seen}
 
 abbrev pub seenOf : List ℕ → Seen
-seenOf m = record { seq = getD m 0 0; sig = getD m 3 0; upper = getD m 15 0; control = getD m 16 0 }
+seenOf m = record { seq = getD m scsiseqPlace 0; sig = getD m scsisigPlace 0; upper = getD m upperPlace 0; control = getD m controlPlace 0 }
 
 -- an array with nothing else in it
 abbrev pub spread : Seen → List ℕ
-spread x = set (set (set (set (replicate 196 0) 0 (x .seq)) 3 (x .sig)) 15 (x .upper)) 16 (x .control)
+spread x = set (set (set (set (replicate imageSize 0) 0 (x .seq)) 3 (x .sig)) 15 (x .upper)) 16 (x .control)
 
 unfoldable pub rstOf : Seen → Bool
 rstOf x = rstSeen (stateAt (spread x))

@@ -9,25 +9,26 @@ use Rattle.rules.specs.Registers.{scsiseqOf, scsiseqByte, sxfrctl0Of, sxfrctl0B
 use Rattle.rules.specs.declared.chip.Status.{Status}
 use Rattle.edges.specs.Parts.{scsiseqB, sxfrctl0B, scsisigB}
 use Rattle.image.specs.Image.{scsisigByte, statusOf, statusByte}
+use Rattle.image.specs.Layout.{ackPlace, offsetPlace, scsiBytesPlace, scsiCountPlace, scsiseqPlace, scsisigPlace, statusPlace, sxfrctl0Place}
 
 -- 340h, 341h and 343h
 abbrev pub registersStored : Bool → Bool → Bool → List ℕ → List ℕ
 registersStored reset bad free m =
-    let q = scsiseqOf (getD m 0 0) in
-    let x = sxfrctl0Of (getD m 1 0) in
-    let g = scsisigOf false (getD m 3 0) in
-    set (set (set m 0 (scsiseqByte (scsiseqB reset q))) 1 (sxfrctl0Byte (sxfrctl0B reset x))) 3
+    let q = scsiseqOf (getD m scsiseqPlace 0) in
+    let x = sxfrctl0Of (getD m sxfrctl0Place 0) in
+    let g = scsisigOf false (getD m scsisigPlace 0) in
+    set (set (set m scsiseqPlace (scsiseqByte (scsiseqB reset q))) sxfrctl0Place (sxfrctl0Byte (sxfrctl0B reset x))) 3
     (scsisigByte (scsisigB (reset || free) (bad && q .enautoatnp) g))
 
 -- a byte behind those of the SCSI FIFO
 abbrev pub byteStored : ℕ → List ℕ → List ℕ
-byteStored b m = set (set m (28 + getD m 23 0) b) 23 (getD m 23 0 + 1)
+byteStored b m = set (set m (scsiBytesPlace + getD m scsiCountPlace 0) b) scsiCountPlace (getD m scsiCountPlace 0 + 1)
 
 -- the offset and the automatic ACK
 abbrev pub countStored : Bool → Bool → Bool → List ℕ → List ℕ
 countStored zeroed counted released m =
-    set (set m 17 (cond zeroed 0 (cond counted (getD m 17 0 + 1) (getD m 17 0)))) 18 (one (not released && eqb (getD m 18 0) 1))
+    set (set m offsetPlace (cond zeroed 0 (cond counted (getD m offsetPlace 0 + 1) (getD m offsetPlace 0)))) ackPlace (one (not released && eqb (getD m ackPlace 0) 1))
 
 -- the status, changed by a part of B
 abbrev pub statusStored : (Status → Status) → List ℕ → List ℕ
-statusStored part m = set m 12 (statusByte (part (statusOf (getD m 12 0))))
+statusStored part m = set m statusPlace (statusByte (part (statusOf (getD m statusPlace 0))))

@@ -17,6 +17,7 @@ use Rattle.rules.specs.declared.records.Event.the-variants.{Write, WordRead}
 use Rattle.rules.specs.Changed.{withStatus, withLatches, withStack}
 use Rattle.image.specs.Image.{stateAt, IsImage}
 use Rattle.rules.specs.Changed.{withHost}
+use Rattle.image.specs.Layout.{controlPlace, statusPlace}
 use Rattle.datapath.specs.Ready.{counterWritten}
 use Rattle.effects.specs.Writes.{Leaving, Does, Plain, storing, kept, channelCleared, counterCleared, hostCleared, ackCounted}
 use Rattle.effects.proofs.Reached.{Leaves}
@@ -75,9 +76,9 @@ unfolding Leaving
 scsidat = record { fits = omega arith; done = λ s v. write-code s 0x06 v; after = λ s v. refl }
 
 -- the access to the latch as the code tests it
-pub latch-accessed : (m : List ℕ) (v : ℕ) → (not (bit (getD m 16 0) 6) && bit (getD m 12 0) 7) ≡ latchAccess (stateAt m) (Write 0x06 v)
+pub latch-accessed : (m : List ℕ) (v : ℕ) → (not (bit (getD m controlPlace 0) 6) && bit (getD m statusPlace 0) 7) ≡ latchAccess (stateAt m) (Write 0x06 v)
 unfolding latchAccess writes reads stateAt
-latch-accessed m v = rw (or-false (not (bit (getD m 16 0) 6)))
+latch-accessed m v = rw (or-false (not (bit (getD m controlPlace 0) 6)))
 
 -- where the code has the two tests as it found them
 pub fills : {m : List ℕ} → IsImage m → {v : ℕ} → v < 256 → {x y : Bool} → x ≡ latchAccess (stateAt m) (Write 0x06 v) → y ≡ automaticAck (stateAt m) (Write 0x06 v) → Leaves m (Write 0x06 v) (latchFilled x y (stateAt m) v)

@@ -26,11 +26,12 @@ use Rattle.effects.proofs.Accesses.{read}
 use Rattle.effects.proofs.Coding.{held-fits, code-at-is}
 use Rattle.effects.proofs.Endings.{acts-done, acts-refused}
 use Rattle.effects.proofs.Going.{image-is, onward, a-fits, a-bytes}
+use Rattle.image.specs.Layout.{hostCountPlace}
 
 module _ {m : List ℕ} (g : IsImage m) (o : ℕ) where
   -- by what stands there and, at the port, by its tests
-  read-code : firstOf (isMissing (readAt o)) false (eqb o 0x16 && shutTo ((stateAt m) .registers .dmacntrl0) false true) false (eqb o 0x16 && ltb (getD m 24 0) 1) ≡ accessCode (stateAt m) (Read o)
-  read-code = read ((stateAt m) .registers .dmacntrl0) (getD m 24 0) (held-fits g) o ∙ code-at-is g (Read o)
+  read-code : firstOf (isMissing (readAt o)) false (eqb o 0x16 && shutTo ((stateAt m) .registers .dmacntrl0) false true) false (eqb o 0x16 && ltb (getD m hostCountPlace 0) 1) ≡ accessCode (stateAt m) (Read o)
+  read-code = read ((stateAt m) .registers .dmacntrl0) (getD m hostCountPlace 0) (held-fits g) o ∙ code-at-is g (Read o)
 
   pub read-done : (r : Register) → readAt o ≡ Present r → eqb o 0x16 ≡ false → accessCode (stateAt m) (Read o) ≡ Done
   read-done r found away = sym (rw (found, away) at read-code)

@@ -18,6 +18,7 @@ use Rattle.rules.specs.declared.records.Event.the-variants.{Read}
 use Rattle.rules.specs.Changed.{withStack, withIdentity}
 use Rattle.image.specs.Image.{stateAt}
 use Rattle.rules.specs.Changed.{withHost}
+use Rattle.image.specs.Layout.{controlPlace, statusPlace}
 use Rattle.effects.specs.Writes.{ackCounted}
 use Rattle.effects.proofs.ReadLaws.{unheld}
 
@@ -73,6 +74,6 @@ module _ (s : State) where
   plain-value o r found = rw found
 
 -- "a read with IO seen, with SPIORDY"
-pub latch-accessed : (m : List ℕ) → (bit (getD m 16 0) 6 && bit (getD m 12 0) 7) ≡ latchAccess (stateAt m) (Read 0x06)
+pub latch-accessed : (m : List ℕ) → (bit (getD m controlPlace 0) 6 && bit (getD m statusPlace 0) 7) ≡ latchAccess (stateAt m) (Read 0x06)
 unfolding latchAccess writes reads stateAt
 latch-accessed m = refl

@@ -14,6 +14,7 @@ use Rattle.rules.specs.declared.chip.Status.{Status}
 use Rattle.image.specs.Image.{imageOf, stateAt, statusOf, IsImage}
 use Rattle.event.specs.Closing.{raisedBy, fallenBy, latchedBy, closedBy}
 use Rattle.effects.proofs.Going.{image-is, state-is, onward}
+use Rattle.image.specs.Layout.{statusPlace}
 
 -- with a path the mode is Normal, not Automatic
 open-path : (spio dma x a b c : Bool) → (not spio && dma && x) ≡ true → (spio && not dma && a && b && c) ≡ false
@@ -42,7 +43,7 @@ module _ (s : State) (h : path (s .registers) ≡ true) where
   unraised = rw (unready, unconflicted)
 
 -- the status that an image's byte holds
-pub status-of : (m : List ℕ) {t : State} → stateAt m ≡ t → statusOf (getD m 12 0) ≡ t .status
+pub status-of : (m : List ℕ) {t : State} → stateAt m ≡ t → statusOf (getD m statusPlace 0) ≡ t .status
 unfolding stateAt
 status-of m e = ap (λ (x : State). x .status) e
 

@@ -27,6 +27,7 @@ use Rattle.laws.proofs.Bits.{one-below}
 use Rattle.laws.proofs.Lists.{padded-length, padded-take}
 use Rattle.image.specs.Image.{scsisigByte, scsirateByte, scsiidByte, statusByte, statusOf, latchesByte, latchesOf, imageOf, registersAt, linesAt, transferAt, stateAt, IsImage}
 use Rattle.image.proofs.EightBits.{is-one, bit-0, bit-1, bit-2, bit-3, bit-4, bit-5, bit-6, bit-7}
+use Rattle.image.specs.Layout.{hostBytesPlace, scsiBytesPlace, stackBytesPlace}
 
 -- the eight bits that a number has
 record Bits (v : ℕ) (b7 b6 b5 b4 b3 b2 b1 b0 : Bool) : Type 0 where
@@ -261,16 +262,16 @@ module _ (s : State) (f : InRange s) where
   host-size : length (padded 128 (s .transfer .host)) ≡ 128
   host-size = padded-length 128 (s .transfer .host) (f .transfer .host)
 
-  pub scsi-at : drop 28 (imageOf s) ≡ padded 8 (s .transfer .scsi) ++ (s .stack .bytes ++ padded 128 (s .transfer .host))
+  pub scsi-at : drop scsiBytesPlace (imageOf s) ≡ padded 8 (s .transfer .scsi) ++ (s .stack .bytes ++ padded 128 (s .transfer .host))
   unfolding imageOf
   scsi-at = append-assoc (padded 8 (s .transfer .scsi)) (s .stack .bytes) (padded 128 (s .transfer .host))
 
-  pub stack-at : drop 36 (imageOf s) ≡ s .stack .bytes ++ padded 128 (s .transfer .host)
+  pub stack-at : drop stackBytesPlace (imageOf s) ≡ s .stack .bytes ++ padded 128 (s .transfer .host)
   stack-at =
       sym (drop-drop 8 28 (imageOf s)) ∙ ap (λ (l : List ℕ). drop 8 l) scsi-at
       ∙ drop-at (padded 8 (s .transfer .scsi)) (s .stack .bytes ++ padded 128 (s .transfer .host)) 8 scsi-size
 
-  pub host-at : drop 68 (imageOf s) ≡ padded 128 (s .transfer .host)
+  pub host-at : drop hostBytesPlace (imageOf s) ≡ padded 128 (s .transfer .host)
   host-at =
       sym (drop-drop 32 36 (imageOf s)) ∙ ap (λ (l : List ℕ). drop 32 l) stack-at
       ∙ drop-at (s .stack .bytes) (padded 128 (s .transfer .host)) 32 (f .stack .size)
@@ -279,8 +280,8 @@ module _ (s : State) (f : InRange s) where
   unfolding imageOf
   transfer-back =
       let t = s .transfer in
-      let h : take (length (t .host)) (drop 68 (imageOf s)) ≡ t .host = rw host-at (padded-take 128 (t .host)) in
-      let q : take (length (t .scsi)) (drop 28 (imageOf s)) ≡ t .scsi = rw scsi-at (take-padded 8 (t .scsi) _) in
+      let h : take (length (t .host)) (drop hostBytesPlace (imageOf s)) ≡ t .host = rw host-at (padded-take 128 (t .host)) in
+      let q : take (length (t .scsi)) (drop scsiBytesPlace (imageOf s)) ≡ t .scsi = rw scsi-at (take-padded 8 (t .scsi) _) in
       λ i.
       record {
         host = h i;
@@ -291,7 +292,7 @@ module _ (s : State) (f : InRange s) where
         last = t .last;
       }
 
-  pub stack-back : take 32 (drop 36 (imageOf s)) ≡ s .stack .bytes
+  pub stack-back : take 32 (drop stackBytesPlace (imageOf s)) ≡ s .stack .bytes
   stack-back = rw stack-at (take-at (s .stack .bytes) (padded 128 (s .transfer .host)) 32 (f .stack .size))
 
   pub read-back : stateAt (imageOf s) ≡ s

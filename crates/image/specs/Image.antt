@@ -95,9 +95,9 @@ headOf s =
     ∷ s .stack .pointer
     ∷ length (s .transfer .scsi)
     ∷ length (s .transfer .host)
-    ∷ counterByte 0 (s .transfer .counter)
-    ∷ counterByte 1 (s .transfer .counter)
     ∷ counterByte 2 (s .transfer .counter)
+    ∷ counterByte 1 (s .transfer .counter)
+    ∷ counterByte 0 (s .transfer .counter)
     ∷ []
 
 -- one state has one image: FIFO bytes oldest first, 0 past the count

@@ -81,15 +81,15 @@ scsiCountPlace = 23
 abbrev pub hostCountPlace : ℕ
 hostCountPlace = 24
 
--- the counter
-abbrev pub counterLowPlace : ℕ
-counterLowPlace = 25
+-- the counter, the highest byte first
+abbrev pub counterHighPlace : ℕ
+counterHighPlace = 25
 
 abbrev pub counterMiddlePlace : ℕ
 counterMiddlePlace = 26
 
-abbrev pub counterHighPlace : ℕ
-counterHighPlace = 27
+abbrev pub counterLowPlace : ℕ
+counterLowPlace = 27
 
 -- the SCSI FIFO, the stack, the host FIFO
 abbrev pub scsiBytesPlace : ℕ

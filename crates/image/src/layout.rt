@@ -55,12 +55,12 @@ pub const SCSI_COUNT: usize = 23;
 
 pub const HOST_COUNT: usize = 24;
 
-// the counter
-pub const COUNTER_LOW: usize = 25;
+// the counter, the highest byte first
+pub const COUNTER_HIGH: usize = 25;
 
 pub const COUNTER_MIDDLE: usize = 26;
 
-pub const COUNTER_HIGH: usize = 27;
+pub const COUNTER_LOW: usize = 27;
 
 // the SCSI FIFO, the stack, the host FIFO
 pub const SCSI_BYTES: usize = 28;

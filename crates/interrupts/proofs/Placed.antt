@@ -9,20 +9,21 @@ use Rattle.rules.specs.declared.chip.Status.{Status}
 use Rattle.rules.specs.declared.chip.Latches.{Latches}
 use Rattle.rules.specs.Changed.{withStatus, withLatches}
 use Rattle.image.specs.Image.{IsImage, imageOf, stateAt, statusByte, statusOf, latchesByte, latchesOf}
+use Rattle.image.specs.Layout.{latchesPlace, statusPlace, sxfrctl1Place}
 
-status-stored : (s : State) (t : Status) → set (imageOf s) 12 (statusByte t) ≡ imageOf (withStatus t s)
+status-stored : (s : State) (t : Status) → set (imageOf s) statusPlace (statusByte t) ≡ imageOf (withStatus t s)
 unfolding imageOf
 status-stored s t = refl
 
-latches-stored : (s : State) (k : Latches) → set (imageOf s) 13 (latchesByte k) ≡ imageOf (withLatches k s)
+latches-stored : (s : State) (k : Latches) → set (imageOf s) latchesPlace (latchesByte k) ≡ imageOf (withLatches k s)
 unfolding imageOf
 latches-stored s k = refl
 
 module _ (m : List ℕ) (h : IsImage m) where
-  pub status-placed : (t : Status) → set m 12 (statusByte t) ≡ imageOf (withStatus t (stateAt m))
+  pub status-placed : (t : Status) → set m statusPlace (statusByte t) ≡ imageOf (withStatus t (stateAt m))
   status-placed t = ap (λ (x : List ℕ). set x 12 (statusByte t)) (h .packed) ∙ status-stored (stateAt m) t
 
-  pub latches-placed : (k : Latches) → set m 13 (latchesByte k) ≡ imageOf (withLatches k (stateAt m))
+  pub latches-placed : (k : Latches) → set m latchesPlace (latchesByte k) ≡ imageOf (withLatches k (stateAt m))
   latches-placed k = ap (λ (x : List ℕ). set x 13 (latchesByte k)) (h .packed) ∙ latches-stored (stateAt m) k
 
   -- where nothing is stored
@@ -32,15 +33,15 @@ module _ (m : List ℕ) (h : IsImage m) where
   pub latches-left : (k : Latches) → stateAt m .latches ≡ k → m ≡ imageOf (withLatches k (stateAt m))
   latches-left k e = h .packed ∙ ap (λ (x : Latches). imageOf (withLatches x (stateAt m))) e
 
-pub status-at : (m : List ℕ) → stateAt m .status ≡ statusOf (getD m 12 0)
+pub status-at : (m : List ℕ) → stateAt m .status ≡ statusOf (getD m statusPlace 0)
 unfolding stateAt
 status-at m = refl
 
-pub latches-at : (m : List ℕ) → stateAt m .latches ≡ latchesOf (getD m 13 0)
+pub latches-at : (m : List ℕ) → stateAt m .latches ≡ latchesOf (getD m latchesPlace 0)
 unfolding stateAt
 latches-at m = refl
 
-pub enspchk-at : (m : List ℕ) → stateAt m .registers .sxfrctl1 .enspchk ≡ bit (getD m 2 0) 5
+pub enspchk-at : (m : List ℕ) → stateAt m .registers .sxfrctl1 .enspchk ≡ bit (getD m sxfrctl1Place 0) 5
 unfolding stateAt
 enspchk-at m = refl
 

@@ -11,6 +11,7 @@ use Rattle.rules.specs.declared.registers.Registers.{Registers}
 use Rattle.rules.specs.declared.records.Lines.{Lines}
 use Rattle.rules.specs.declared.chip.Status.{Status}
 use Rattle.image.specs.Image.{stateAt, registersAt, linesAt, transferAt, statusOf}
+use Rattle.image.specs.Layout.{statusPlace}
 
 abbrev pub raisedBy : Bool → Bool → Status → Status
 raisedBy ready conflict t =
@@ -34,6 +35,6 @@ pub no-conflict : (r : Registers) (l : Lines) (t : Transfer) → pioReady r l t 
 unfolding pioReady fifoConflict automatic normal
 no-conflict r l t h = exclusive (r .sxfrctl0 .spioen) (r .sxfrctl0 .dmaen) (matched r l) (reqSeen r l) (not (t .ack)) (r .sxfrctl0 .scsien) (not (path r)) h
 
-pub raised-at : (m : List ℕ) {ready conflict : Bool} {t : Status} → ready ≡ pioReady (stateAt m) → conflict ≡ fifoConflict (registersAt m) → t ≡ statusOf (getD m 12 0) → raisedBy ready conflict t ≡ statusRaised (stateAt m .registers) (stateAt m .lines) (stateAt m .transfer) (stateAt m .status)
+pub raised-at : (m : List ℕ) {ready conflict : Bool} {t : Status} → ready ≡ pioReady (stateAt m) → conflict ≡ fifoConflict (registersAt m) → t ≡ statusOf (getD m statusPlace 0) → raisedBy ready conflict t ≡ statusRaised (stateAt m .registers) (stateAt m .lines) (stateAt m .transfer) (stateAt m .status)
 unfolding statusRaised stateAt
 raised-at m e f g = rw (e, f, g)

@@ -16,6 +16,7 @@ use Rattle.rules.specs.declared.chip.Status.{Status}
 use Rattle.rules.specs.declared.chip.Latches.{Latches}
 use Rattle.rules.specs.Changed.{withLatches}
 use Rattle.image.specs.Image.{imageOf, stateAt, statusOf, latchesOf}
+use Rattle.image.specs.Layout.{latchesPlace, simode0Place, simode1Place}
 use Rattle.interrupts.proofs.Placed.{latches-as}
 use Rattle.interrupts.specs.Latching.{latchesFrom, anyEnable}
 
@@ -85,10 +86,10 @@ latches-same b0 r0 b1 r1 status raised k h =
     rw (eqb-true r0 b0 (s .first), eqb-true r1 b1 (s .second), eqb-true status raised (s .third)) (latches-steady (simode0Of b0) (simode1Of b1) (statusOf raised) k)
 
 -- over the bytes, as the code reads them, and over the state
-pub latches-from-at : (m : List ℕ) (b0 b1 status raised : ℕ) → latchesFrom (simode0Of b0) (simode1Of b1) (simode0Of (getD m 7 0)) (simode1Of (getD m 8 0)) (statusOf status) (statusOf raised) (latchesOf (getD m 13 0)) ≡ latchesFrom (simode0Of b0) (simode1Of b1) (stateAt m .registers .simode0) (stateAt m .registers .simode1) (statusOf status) (statusOf raised) (stateAt m .latches)
+pub latches-from-at : (m : List ℕ) (b0 b1 status raised : ℕ) → latchesFrom (simode0Of b0) (simode1Of b1) (simode0Of (getD m simode0Place 0)) (simode1Of (getD m simode1Place 0)) (statusOf status) (statusOf raised) (latchesOf (getD m latchesPlace 0)) ≡ latchesFrom (simode0Of b0) (simode1Of b1) (stateAt m .registers .simode0) (stateAt m .registers .simode1) (statusOf status) (statusOf raised) (stateAt m .latches)
 unfolding stateAt
 latches-from-at m b0 b1 status raised = refl
 
 -- what the code stores is what is to stand there
-pub latches-made : (m : List ℕ) (b0 b1 status raised : ℕ) {k : Latches} {n : List ℕ} → k ≡ latchesFrom (simode0Of b0) (simode1Of b1) (simode0Of (getD m 7 0)) (simode1Of (getD m 8 0)) (statusOf status) (statusOf raised) (latchesOf (getD m 13 0)) → n ≡ imageOf (withLatches k (stateAt m)) → n ≡ imageOf (withLatches (latchesFrom (simode0Of b0) (simode1Of b1) (stateAt m .registers .simode0) (stateAt m .registers .simode1) (statusOf status) (statusOf raised) (stateAt m .latches)) (stateAt m))
+pub latches-made : (m : List ℕ) (b0 b1 status raised : ℕ) {k : Latches} {n : List ℕ} → k ≡ latchesFrom (simode0Of b0) (simode1Of b1) (simode0Of (getD m simode0Place 0)) (simode1Of (getD m simode1Place 0)) (statusOf status) (statusOf raised) (latchesOf (getD m latchesPlace 0)) → n ≡ imageOf (withLatches k (stateAt m)) → n ≡ imageOf (withLatches (latchesFrom (simode0Of b0) (simode1Of b1) (stateAt m .registers .simode0) (stateAt m .registers .simode1) (statusOf status) (statusOf raised) (stateAt m .latches)) (stateAt m))
 latches-made m b0 b1 status raised e h = latches-as (stateAt m) (e ∙ latches-from-at m b0 b1 status raised) h

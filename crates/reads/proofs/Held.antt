@@ -18,6 +18,7 @@ use Rattle.laws.proofs.Lists.{padded-length}
 use Rattle.laws.proofs.Bits.{one-below}
 use Rattle.stack.proofs.Places.{place-lt}
 use Rattle.image.specs.Image.{imageOf, stateAt, registersAt, linesAt, transferAt, IsImage}
+use Rattle.image.specs.Layout.{brstcntrlPlace, counterHighPlace, counterLowPlace, counterMiddlePlace, dmacntrl0Place, dmacntrl1Place, hostBytesPlace, hostCountPlace, identityPlace, imageSize, pointerPlace, scsiCountPlace, scsiseqPlace, simode0Place, simode1Place, stackBytesPlace, sxfrctl0Place, sxfrctl1Place}
 
 -- zeros read as 0, and so does what is past them
 zeros : (n i : ℕ) → getD (replicate n zero) i zero ≡ zero
@@ -36,55 +37,55 @@ padded-at n i l = filled l (n - length l) i
 
 -- the head, byte by byte
 module _ (s : State) where
-  head-scsiseq : getD (imageOf s) 0 0 ≡ scsiseqByte (s .registers .scsiseq)
+  head-scsiseq : getD (imageOf s) scsiseqPlace 0 ≡ scsiseqByte (s .registers .scsiseq)
   unfolding imageOf
   head-scsiseq = refl
 
-  head-sxfrctl0 : getD (imageOf s) 1 0 ≡ sxfrctl0Byte (s .registers .sxfrctl0)
+  head-sxfrctl0 : getD (imageOf s) sxfrctl0Place 0 ≡ sxfrctl0Byte (s .registers .sxfrctl0)
   unfolding imageOf
   head-sxfrctl0 = refl
 
-  head-sxfrctl1 : getD (imageOf s) 2 0 ≡ sxfrctl1Byte (s .registers .sxfrctl1)
+  head-sxfrctl1 : getD (imageOf s) sxfrctl1Place 0 ≡ sxfrctl1Byte (s .registers .sxfrctl1)
   unfolding imageOf
   head-sxfrctl1 = refl
 
-  head-simode0 : getD (imageOf s) 7 0 ≡ simode0Byte (s .registers .simode0)
+  head-simode0 : getD (imageOf s) simode0Place 0 ≡ simode0Byte (s .registers .simode0)
   unfolding imageOf
   head-simode0 = refl
 
-  head-simode1 : getD (imageOf s) 8 0 ≡ simode1Byte (s .registers .simode1)
+  head-simode1 : getD (imageOf s) simode1Place 0 ≡ simode1Byte (s .registers .simode1)
   unfolding imageOf
   head-simode1 = refl
 
-  head-dmacntrl0 : getD (imageOf s) 9 0 ≡ dmacntrl0Byte (s .registers .dmacntrl0)
+  head-dmacntrl0 : getD (imageOf s) dmacntrl0Place 0 ≡ dmacntrl0Byte (s .registers .dmacntrl0)
   unfolding imageOf
   head-dmacntrl0 = refl
 
-  head-dmacntrl1 : getD (imageOf s) 10 0 ≡ dmacntrl1Byte (s .registers .dmacntrl1) 0
+  head-dmacntrl1 : getD (imageOf s) dmacntrl1Place 0 ≡ dmacntrl1Byte (s .registers .dmacntrl1) 0
   unfolding imageOf
   head-dmacntrl1 = refl
 
-  head-pointer : getD (imageOf s) 22 0 ≡ s .stack .pointer
+  head-pointer : getD (imageOf s) pointerPlace 0 ≡ s .stack .pointer
   unfolding imageOf
   head-pointer = refl
 
-  head-scsi : getD (imageOf s) 23 0 ≡ length (s .transfer .scsi)
+  head-scsi : getD (imageOf s) scsiCountPlace 0 ≡ length (s .transfer .scsi)
   unfolding imageOf
   head-scsi = refl
 
-  head-host : getD (imageOf s) 24 0 ≡ length (s .transfer .host)
+  head-host : getD (imageOf s) hostCountPlace 0 ≡ length (s .transfer .host)
   unfolding imageOf
   head-host = refl
 
-  head-counter0 : getD (imageOf s) 25 0 ≡ counterByte 0 (s .transfer .counter)
+  head-counter0 : getD (imageOf s) counterLowPlace 0 ≡ counterByte 0 (s .transfer .counter)
   unfolding imageOf
   head-counter0 = refl
 
-  head-counter1 : getD (imageOf s) 26 0 ≡ counterByte 1 (s .transfer .counter)
+  head-counter1 : getD (imageOf s) counterMiddlePlace 0 ≡ counterByte 1 (s .transfer .counter)
   unfolding imageOf
   head-counter1 = refl
 
-  head-counter2 : getD (imageOf s) 27 0 ≡ counterByte 2 (s .transfer .counter)
+  head-counter2 : getD (imageOf s) counterHighPlace 0 ≡ counterByte 2 (s .transfer .counter)
   unfolding imageOf
   head-counter2 = refl
 
@@ -104,7 +105,7 @@ module _ (s : State) (r : InRange s) where
       ∙ getD-append-add (beforeHost s) (padded 128 (s .transfer .host)) k 0
       ∙ padded-at 128 k (s .transfer .host)
 
-  host-first : getD (imageOf s) 68 0 ≡ getD (s .transfer .host) 0 0
+  host-first : getD (imageOf s) hostBytesPlace 0 ≡ getD (s .transfer .host) 0 0
   unfolding imageOf
   host-first = behind 0
 
@@ -117,52 +118,52 @@ module _ (m : List ℕ) (i : IsImage m) where
   held : (k : ℕ) {x : ℕ} → getD (imageOf (stateAt m)) k 0 ≡ x → getD m k 0 ≡ x
   held k e = ap (λ (l : List ℕ). getD l k 0) (i .packed) ∙ e
 
-  pub at-scsiseq : getD m 0 0 ≡ scsiseqByte ((stateAt m) .registers .scsiseq)
+  pub at-scsiseq : getD m scsiseqPlace 0 ≡ scsiseqByte ((stateAt m) .registers .scsiseq)
   at-scsiseq = held 0 (head-scsiseq (stateAt m))
 
-  pub at-sxfrctl0 : getD m 1 0 ≡ sxfrctl0Byte ((stateAt m) .registers .sxfrctl0)
+  pub at-sxfrctl0 : getD m sxfrctl0Place 0 ≡ sxfrctl0Byte ((stateAt m) .registers .sxfrctl0)
   at-sxfrctl0 = held 1 (head-sxfrctl0 (stateAt m))
 
-  pub at-sxfrctl1 : getD m 2 0 ≡ sxfrctl1Byte ((stateAt m) .registers .sxfrctl1)
+  pub at-sxfrctl1 : getD m sxfrctl1Place 0 ≡ sxfrctl1Byte ((stateAt m) .registers .sxfrctl1)
   at-sxfrctl1 = held 2 (head-sxfrctl1 (stateAt m))
 
-  pub at-simode0 : getD m 7 0 ≡ simode0Byte ((stateAt m) .registers .simode0)
+  pub at-simode0 : getD m simode0Place 0 ≡ simode0Byte ((stateAt m) .registers .simode0)
   at-simode0 = held 7 (head-simode0 (stateAt m))
 
-  pub at-simode1 : getD m 8 0 ≡ simode1Byte ((stateAt m) .registers .simode1)
+  pub at-simode1 : getD m simode1Place 0 ≡ simode1Byte ((stateAt m) .registers .simode1)
   at-simode1 = held 8 (head-simode1 (stateAt m))
 
-  pub at-dmacntrl0 : getD m 9 0 ≡ dmacntrl0Byte ((stateAt m) .registers .dmacntrl0)
+  pub at-dmacntrl0 : getD m dmacntrl0Place 0 ≡ dmacntrl0Byte ((stateAt m) .registers .dmacntrl0)
   at-dmacntrl0 = held 9 (head-dmacntrl0 (stateAt m))
 
-  pub at-dmacntrl1 : getD m 10 0 ≡ dmacntrl1Byte ((stateAt m) .registers .dmacntrl1) 0
+  pub at-dmacntrl1 : getD m dmacntrl1Place 0 ≡ dmacntrl1Byte ((stateAt m) .registers .dmacntrl1) 0
   at-dmacntrl1 = held 10 (head-dmacntrl1 (stateAt m))
 
-  pub at-pointer : getD m 22 0 ≡ (stateAt m) .stack .pointer
+  pub at-pointer : getD m pointerPlace 0 ≡ (stateAt m) .stack .pointer
   at-pointer = held 22 (head-pointer (stateAt m))
 
-  pub at-scsi : getD m 23 0 ≡ length ((stateAt m) .transfer .scsi)
+  pub at-scsi : getD m scsiCountPlace 0 ≡ length ((stateAt m) .transfer .scsi)
   at-scsi = held 23 (head-scsi (stateAt m))
 
-  pub at-host : getD m 24 0 ≡ length ((stateAt m) .transfer .host)
+  pub at-host : getD m hostCountPlace 0 ≡ length ((stateAt m) .transfer .host)
   at-host = held 24 (head-host (stateAt m))
 
-  pub at-counter0 : getD m 25 0 ≡ counterByte 0 ((stateAt m) .transfer .counter)
+  pub at-counter0 : getD m counterLowPlace 0 ≡ counterByte 0 ((stateAt m) .transfer .counter)
   at-counter0 = held 25 (head-counter0 (stateAt m))
 
-  pub at-counter1 : getD m 26 0 ≡ counterByte 1 ((stateAt m) .transfer .counter)
+  pub at-counter1 : getD m counterMiddlePlace 0 ≡ counterByte 1 ((stateAt m) .transfer .counter)
   at-counter1 = held 26 (head-counter1 (stateAt m))
 
-  pub at-counter2 : getD m 27 0 ≡ counterByte 2 ((stateAt m) .transfer .counter)
+  pub at-counter2 : getD m counterHighPlace 0 ≡ counterByte 2 ((stateAt m) .transfer .counter)
   at-counter2 = held 27 (head-counter2 (stateAt m))
 
-  pub at-first : getD m 68 0 ≡ getD ((stateAt m) .transfer .host) 0 0
+  pub at-first : getD m hostBytesPlace 0 ≡ getD ((stateAt m) .transfer .host) 0 0
   at-first = held 68 (host-first (stateAt m) (i .range))
 
-  pub at-second : getD m 69 0 ≡ getD ((stateAt m) .transfer .host) 1 0
+  pub at-second : getD m 69 0 ≡ getD ((stateAt m) .transfer .host) sxfrctl0Place 0
   at-second = held 69 (host-second (stateAt m) (i .range))
 
-  pub at-brstcntrl : getD m 11 0 ≡ (stateAt m) .registers .brstcntrl
+  pub at-brstcntrl : getD m brstcntrlPlace 0 ≡ (stateAt m) .registers .brstcntrl
   unfolding stateAt
   at-brstcntrl = refl
 
@@ -170,29 +171,29 @@ module _ (m : List ℕ) (i : IsImage m) where
   unfolding scsibus stateAt
   at-bus = refl
 
-  pub at-identity : getD m 21 0 < 32
+  pub at-identity : getD m identityPlace 0 < 32
   unfolding stateAt
   at-identity = i .range .identity
 
   -- 353h is a byte, and the sum of its parts
-  pub parts-fit : getD m 10 0 + getD m 22 0 < 256
+  pub parts-fit : getD m dmacntrl1Place 0 + getD m pointerPlace 0 < 256
   parts-fit =
       let d = (stateAt m) .registers .dmacntrl1 in
       omega (arith, at-dmacntrl1, at-pointer, i .range .stack .pointer, one-below (d .pwrdwn), one-below (d .enstk32))
 
-  pub parts-join : getD m 10 0 + getD m 22 0 ≡ dmacntrl1Byte ((stateAt m) .registers .dmacntrl1) ((stateAt m) .stack .pointer)
+  pub parts-join : getD m dmacntrl1Place 0 + getD m pointerPlace 0 ≡ dmacntrl1Byte ((stateAt m) .registers .dmacntrl1) ((stateAt m) .stack .pointer)
   parts-join = omega (arith, at-dmacntrl1, at-pointer)
 
 -- the stack stands at 36
 abbrev pub wideAt : List ℕ → Bool
 wideAt m = (stateAt m) .registers .dmacntrl1 .enstk32
 
-pub place-inside : (m : List ℕ) (p : ℕ) → p ≡ stackPlace (wideAt m) ((stateAt m) .stack) → 36 + p < 196
+pub place-inside : (m : List ℕ) (p : ℕ) → p ≡ stackPlace (wideAt m) ((stateAt m) .stack) → stackBytesPlace + p < imageSize
 place-inside m p e = omega (arith, e, place-lt (wideAt m) ((stateAt m) .stack))
 
-pub at-place : (m : List ℕ) (p : ℕ) → p ≡ stackPlace (wideAt m) ((stateAt m) .stack) → getD m (36 + p) 0 ≡ stackByte (wideAt m) ((stateAt m) .stack)
+pub at-place : (m : List ℕ) (p : ℕ) → p ≡ stackPlace (wideAt m) ((stateAt m) .stack) → getD m (stackBytesPlace + p) 0 ≡ stackByte (wideAt m) ((stateAt m) .stack)
 unfolding stackByte stateAt
 at-place m p e =
     let q = stackPlace (wideAt m) ((stateAt m) .stack) in
-    ap (λ (k : ℕ). getD m (36 + k) 0) e
-    ∙ sym (getD-take 32 (drop 36 m) q 0 (place-lt (wideAt m) ((stateAt m) .stack)) ∙ getD-drop 36 m q 0)
+    ap (λ (k : ℕ). getD m (stackBytesPlace + k) 0) e
+    ∙ sym (getD-take 32 (drop stackBytesPlace m) q 0 (place-lt (wideAt m) ((stateAt m) .stack)) ∙ getD-drop stackBytesPlace m q 0)

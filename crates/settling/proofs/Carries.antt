@@ -14,15 +14,16 @@ use Rattle.image.specs.Image.{headOf, imageOf, stateAt, IsImage}
 use Rattle.settling.specs.Laid.{laid, lowered}
 use Rattle.settling.proofs.Places.{Sized, image-laid, scsi-joined, host-joined, scsi-lowered, host-lowered, scsi-from, host-from, counts-set}
 use Rattle.settling.proofs.Kept.{sized, image-long, scsi-count, host-count}
+use Rattle.image.specs.Layout.{hostBytesPlace, hostCountPlace, imageSize, scsiBytesPlace, scsiCountPlace}
 
-pub pasted-long : (m m₁ : List ℕ) (at : ℕ) (s : List ℕ) (n : ℕ) → m₁ ≡ paste m at s n → length m ≡ 196 → at + n ≤ 196 → n ≤ length s → length m₁ ≡ 196
+pub pasted-long : (m m₁ : List ℕ) (at : ℕ) (s : List ℕ) (n : ℕ) → m₁ ≡ paste m at s n → length m ≡ imageSize → at + n ≤ imageSize → n ≤ length s → length m₁ ≡ imageSize
 pasted-long m m₁ at s n e l h k = ap length e ∙ length-paste m at s n (omega arith) k ∙ l
 
 -- the counts of an image
-pub scsi-held : (m : List ℕ) → IsImage m → getD m 23 0 ≡ length ((stateAt m) .transfer .scsi)
+pub scsi-held : (m : List ℕ) → IsImage m → getD m scsiCountPlace 0 ≡ length ((stateAt m) .transfer .scsi)
 scsi-held m i = ap (λ (l : List ℕ). getD l 23 0) (i .packed) ∙ scsi-count (stateAt m)
 
-pub host-held : (m : List ℕ) → IsImage m → getD m 24 0 ≡ length ((stateAt m) .transfer .host)
+pub host-held : (m : List ℕ) → IsImage m → getD m hostCountPlace 0 ≡ length ((stateAt m) .transfer .host)
 host-held m i = ap (λ (l : List ℕ). getD l 24 0) (i .packed) ∙ host-count (stateAt m)
 
 -- after a block is put behind one FIFO and taken off the other, m₂ is laid out anew
@@ -40,32 +41,32 @@ module _ (s : State) (m m₁ m₂ : List ℕ) (k a b : ℕ) (p : m ≡ imageOf s
   w : m ≡ laid (headOf s) (s .transfer .scsi) (s .stack .bytes) (s .transfer .host)
   w = p ∙ image-laid s
 
-  long : length m ≡ 196
+  long : length m ≡ imageSize
   long = ap length p ∙ image-long s (r .transfer) (r .stack)
 
-  out-made : k ≤ length (s .transfer .host) → length (s .transfer .scsi) + k ≤ 8 → m₁ ≡ paste m (28 + a) (drop 68 m) k → m₂ ≡ lowered m₁ 68 b k → set (set m₂ 23 (a + k)) 24 (b - k) ≡ imageOf (withTransfer (carried true k (s .transfer)) s)
+  out-made : k ≤ length (s .transfer .host) → length (s .transfer .scsi) + k ≤ 8 → m₁ ≡ paste m (scsiBytesPlace + a) (drop hostBytesPlace m) k → m₂ ≡ lowered m₁ 68 b k → set (set m₂ 23 (a + k)) 24 (b - k) ≡ imageOf (withTransfer (carried true k (s .transfer)) s)
   unfolding carried
   out-made c d e f =
       let t : length (take k (s .transfer .host)) ≡ k = length-take-le k (s .transfer .host) c in
       let x : length (s .transfer .scsi ++ take k (s .transfer .host)) ≡ length (s .transfer .scsi) + k = length-append (s .transfer .scsi) (take k (s .transfer .host)) ∙ ap (λ (n : ℕ). length (s .transfer .scsi) + n) t in
-      let g : m₁ ≡ laid (headOf s) (s .transfer .scsi ++ take k (s .transfer .host)) (s .stack .bytes) (s .transfer .host) = e ∙ ap (λ (l : List ℕ). paste l (28 + a) (drop 68 m) k) w ∙ scsi-joined z (drop 68 m) (28 + a) k (omega arith) d (simp length-drop (omega (arith, long, r .transfer .host))) ∙ ap (λ (l : List ℕ). laid (headOf s) (s .transfer .scsi ++ l) (s .stack .bytes) (s .transfer .host)) (ap (λ (l : List ℕ). take k (drop 68 l)) w ∙ host-from z k c) in
+      let g : m₁ ≡ laid (headOf s) (s .transfer .scsi ++ take k (s .transfer .host)) (s .stack .bytes) (s .transfer .host) = e ∙ ap (λ (l : List ℕ). paste l (scsiBytesPlace + a) (drop hostBytesPlace m) k) w ∙ scsi-joined z (drop hostBytesPlace m) (scsiBytesPlace + a) k (omega arith) d (simp length-drop (omega (arith, long, r .transfer .host))) ∙ ap (λ (l : List ℕ). laid (headOf s) (s .transfer .scsi ++ l) (s .stack .bytes) (s .transfer .host)) (ap (λ (l : List ℕ). take k (drop hostBytesPlace l)) w ∙ host-from z k c) in
       let z₁ : Sized (headOf s) (s .transfer .scsi ++ take k (s .transfer .host)) (s .stack .bytes) (s .transfer .host) = record { head = z .head; scsi = omega (arith, x); stack = z .stack; host = z .host } in
       let j : m₂ ≡ laid (headOf s) (s .transfer .scsi ++ take k (s .transfer .host)) (s .stack .bytes) (drop k (s .transfer .host)) = f ∙ ap (λ (l : List ℕ). lowered l 68 b k) g ∙ host-lowered z₁ b k v c in
       counted-out s (s .transfer .scsi ++ take k (s .transfer .host)) (drop k (s .transfer .host)) m₂ (a + k) (b - k) j (omega (arith, x)) (simp length-drop (omega arith))
 
-  in-made : k ≤ length (s .transfer .scsi) → length (s .transfer .host) + k ≤ 128 → m₁ ≡ paste m (68 + b) (drop 28 m) k → m₂ ≡ lowered m₁ 28 a k → set (set m₂ 23 (a - k)) 24 (b + k) ≡ imageOf (withTransfer (carried false k (s .transfer)) s)
+  in-made : k ≤ length (s .transfer .scsi) → length (s .transfer .host) + k ≤ 128 → m₁ ≡ paste m (hostBytesPlace + b) (drop scsiBytesPlace m) k → m₂ ≡ lowered m₁ 28 a k → set (set m₂ 23 (a - k)) 24 (b + k) ≡ imageOf (withTransfer (carried false k (s .transfer)) s)
   unfolding carried
   in-made c d e f =
       let t : length (take k (s .transfer .scsi)) ≡ k = length-take-le k (s .transfer .scsi) c in
       let x : length (s .transfer .host ++ take k (s .transfer .scsi)) ≡ length (s .transfer .host) + k = length-append (s .transfer .host) (take k (s .transfer .scsi)) ∙ ap (λ (n : ℕ). length (s .transfer .host) + n) t in
-      let g : m₁ ≡ laid (headOf s) (s .transfer .scsi) (s .stack .bytes) (s .transfer .host ++ take k (s .transfer .scsi)) = e ∙ ap (λ (l : List ℕ). paste l (68 + b) (drop 28 m) k) w ∙ host-joined z (drop 28 m) (68 + b) k (omega arith) d (simp length-drop (omega (arith, long, r .transfer .scsi))) ∙ ap (λ (l : List ℕ). laid (headOf s) (s .transfer .scsi) (s .stack .bytes) (s .transfer .host ++ l)) (ap (λ (l : List ℕ). take k (drop 28 l)) w ∙ scsi-from z k c) in
+      let g : m₁ ≡ laid (headOf s) (s .transfer .scsi) (s .stack .bytes) (s .transfer .host ++ take k (s .transfer .scsi)) = e ∙ ap (λ (l : List ℕ). paste l (hostBytesPlace + b) (drop scsiBytesPlace m) k) w ∙ host-joined z (drop scsiBytesPlace m) (hostBytesPlace + b) k (omega arith) d (simp length-drop (omega (arith, long, r .transfer .scsi))) ∙ ap (λ (l : List ℕ). laid (headOf s) (s .transfer .scsi) (s .stack .bytes) (s .transfer .host ++ l)) (ap (λ (l : List ℕ). take k (drop scsiBytesPlace l)) w ∙ scsi-from z k c) in
       let z₁ : Sized (headOf s) (s .transfer .scsi) (s .stack .bytes) (s .transfer .host ++ take k (s .transfer .scsi)) = record { head = z .head; scsi = z .scsi; stack = z .stack; host = omega (arith, x) } in
       let j : m₂ ≡ laid (headOf s) (drop k (s .transfer .scsi)) (s .stack .bytes) (s .transfer .host ++ take k (s .transfer .scsi)) = f ∙ ap (λ (l : List ℕ). lowered l 28 a k) g ∙ scsi-lowered z₁ a k u c in
       counted-out s (drop k (s .transfer .scsi)) (s .transfer .host ++ take k (s .transfer .scsi)) m₂ (a - k) (b + k) j (simp length-drop (omega arith)) (omega (arith, x))
 
-module _ (m m₁ m₂ : List ℕ) (k a b : ℕ) (i : IsImage m) (u : a ≡ getD m 23 0) (v : b ≡ getD m 24 0) where
-  pub carried-out : k ≤ length ((stateAt m) .transfer .host) → length ((stateAt m) .transfer .scsi) + k ≤ 8 → m₁ ≡ paste m (28 + a) (drop 68 m) k → m₂ ≡ lowered m₁ 68 b k → set (set m₂ 23 (a + k)) 24 (b - k) ≡ imageOf (withTransfer (carried true k ((stateAt m) .transfer)) (stateAt m))
+module _ (m m₁ m₂ : List ℕ) (k a b : ℕ) (i : IsImage m) (u : a ≡ getD m scsiCountPlace 0) (v : b ≡ getD m hostCountPlace 0) where
+  pub carried-out : k ≤ length ((stateAt m) .transfer .host) → length ((stateAt m) .transfer .scsi) + k ≤ 8 → m₁ ≡ paste m (scsiBytesPlace + a) (drop hostBytesPlace m) k → m₂ ≡ lowered m₁ 68 b k → set (set m₂ 23 (a + k)) 24 (b - k) ≡ imageOf (withTransfer (carried true k ((stateAt m) .transfer)) (stateAt m))
   carried-out = out-made (stateAt m) m m₁ m₂ k a b (i .packed) (i .range) (u ∙ scsi-held m i) (v ∙ host-held m i)
 
-  pub carried-in : k ≤ length ((stateAt m) .transfer .scsi) → length ((stateAt m) .transfer .host) + k ≤ 128 → m₁ ≡ paste m (68 + b) (drop 28 m) k → m₂ ≡ lowered m₁ 28 a k → set (set m₂ 23 (a - k)) 24 (b + k) ≡ imageOf (withTransfer (carried false k ((stateAt m) .transfer)) (stateAt m))
+  pub carried-in : k ≤ length ((stateAt m) .transfer .scsi) → length ((stateAt m) .transfer .host) + k ≤ 128 → m₁ ≡ paste m (hostBytesPlace + b) (drop scsiBytesPlace m) k → m₂ ≡ lowered m₁ 28 a k → set (set m₂ 23 (a - k)) 24 (b + k) ≡ imageOf (withTransfer (carried false k ((stateAt m) .transfer)) (stateAt m))
   carried-in = in-made (stateAt m) m m₁ m₂ k a b (i .packed) (i .range) (u ∙ scsi-held m i) (v ∙ host-held m i)

@@ -25,6 +25,7 @@ use Rattle.settling.specs.Laid.{laid, counterPut}
 use Rattle.settling.specs.Steps.{byteOf}
 use Rattle.settling.proofs.Places.{Sized, flat, image-laid, scsi-joined, scsi-from}
 use Rattle.settling.proofs.Kept.{sized, image-long, offset-at, counter-at}
+use Rattle.image.specs.Layout.{ackPlace, counterHighPlace, counterLowPlace, counterMiddlePlace, imageSize, lastPlace, offsetPlace, scsiBytesPlace, scsiCountPlace}
 use Rattle.settling.proofs.Carries.{scsi-held}
 
 -- another SCSI FIFO and byte last sent in their places
@@ -58,12 +59,12 @@ module _ (s : State) (m : List ℕ) (b n : ℕ) (p : m ≡ imageOf s) (r : InRan
   w : m ≡ laid (headOf s) (s .transfer .scsi) (s .stack .bytes) (s .transfer .host)
   w = p ∙ image-laid s
 
-  oldest : 0 < length (s .transfer .scsi) → getD m 28 0 ≡ getD (s .transfer .scsi) 0 0
+  oldest : 0 < length (s .transfer .scsi) → getD m scsiBytesPlace 0 ≡ getD (s .transfer .scsi) 0 0
   oldest h =
-      sym (getD-drop 28 m 0 0) ∙ sym (getD-take 1 (drop 28 m) 0 0 (omega arith))
-      ∙ ap (λ (l : List ℕ). getD l 0 0) (ap (λ (l : List ℕ). take 1 (drop 28 l)) w ∙ scsi-from z 1 h) ∙ getD-take 1 (s .transfer .scsi) 0 0 (omega arith)
+      sym (getD-drop scsiBytesPlace m 0 0) ∙ sym (getD-take 1 (drop scsiBytesPlace m) 0 0 (omega arith))
+      ∙ ap (λ (l : List ℕ). getD l 0 0) (ap (λ (l : List ℕ). take 1 (drop scsiBytesPlace l)) w ∙ scsi-from z 1 h) ∙ getD-take 1 (s .transfer .scsi) 0 0 (omega arith)
 
-  sent-made : 0 < length (s .transfer .scsi) → b ≡ getD m 28 0 → set (set (shifted m) 19 b) 23 (n - 1) ≡ imageOf (withTransfer (passed true [] (s .transfer)) s)
+  sent-made : 0 < length (s .transfer .scsi) → b ≡ getD m scsiBytesPlace 0 → set (set (shifted m) lastPlace b) scsiCountPlace (n - 1) ≡ imageOf (withTransfer (passed true [] (s .transfer)) s)
   unfolding passed laid
   sent-made h e =
       let q : List ℕ = s .transfer .scsi in
@@ -77,33 +78,33 @@ module _ (s : State) (m : List ℕ) (b n : ℕ) (p : m ≡ imageOf s) (r : InRan
       ∙ ap (λ (y : ℕ). set (set (laid (headOf s) (drop 1 q) (s .stack .bytes) (s .transfer .host)) 19 (getD q 0 0)) 23 y) x
       ∙ last-set s (drop 1 q) (getD q 0 0)
 
-  stored-made : length (s .transfer .scsi) < 8 → set (set m (28 + n) b) 23 (n + 1) ≡ imageOf (withTransfer (passed false (b ∷ []) (s .transfer)) s)
+  stored-made : length (s .transfer .scsi) < 8 → set (set m (scsiBytesPlace + n) b) scsiCountPlace (n + 1) ≡ imageOf (withTransfer (passed false (b ∷ []) (s .transfer)) s)
   unfolding passed
   stored-made h =
-      let l : length m ≡ 196 = ap length p ∙ image-long s (r .transfer) (r .stack) in
-      let g : set m (28 + n) b ≡ laid (headOf s) (s .transfer .scsi ++ (b ∷ [])) (s .stack .bytes) (s .transfer .host) = set-paste m (28 + n) b (omega arith) ∙ ap (λ (y : List ℕ). paste y (28 + n) (b ∷ []) 1) w ∙ scsi-joined z (b ∷ []) (28 + n) 1 (omega arith) (omega arith) (omega arith) in
+      let l : length m ≡ imageSize = ap length p ∙ image-long s (r .transfer) (r .stack) in
+      let g : set m (scsiBytesPlace + n) b ≡ laid (headOf s) (s .transfer .scsi ++ (b ∷ [])) (s .stack .bytes) (s .transfer .host) = set-paste m (scsiBytesPlace + n) b (omega arith) ∙ ap (λ (y : List ℕ). paste y (scsiBytesPlace + n) (b ∷ []) 1) w ∙ scsi-joined z (b ∷ []) (scsiBytesPlace + n) 1 (omega arith) (omega arith) (omega arith) in
       let x : n + 1 ≡ length (s .transfer .scsi ++ (b ∷ [])) = simp length-append (omega arith) in
       ap (λ (y : List ℕ). set y 23 (n + 1)) g ∙ ap (λ (y : ℕ). set (laid (headOf s) (s .transfer .scsi ++ (b ∷ [])) (s .stack .bytes) (s .transfer .host)) 23 y) x
       ∙ scsi-set s (s .transfer .scsi ++ (b ∷ []))
 
 -- the counter and the offset, or the automatic ACK, in their places
-acked-pulse : (s : State) (n o : ℕ) → set (set (set (set (imageOf s) 25 (counterByte 0 n)) 26 (counterByte 1 n)) 27 (counterByte 2 n)) 17 o ≡ imageOf (withTransfer (record { host = s .transfer .host; scsi = s .transfer .scsi; counter = n; offset = o; ack = s .transfer .ack; last = s .transfer .last }) s)
+acked-pulse : (s : State) (n o : ℕ) → set (set (set (set (imageOf s) counterLowPlace (counterByte 0 n)) counterMiddlePlace (counterByte 1 n)) counterHighPlace (counterByte 2 n)) offsetPlace o ≡ imageOf (withTransfer (record { host = s .transfer .host; scsi = s .transfer .scsi; counter = n; offset = o; ack = s .transfer .ack; last = s .transfer .last }) s)
 unfolding imageOf
 acked-pulse s n o = refl
 
-acked-on : (s : State) (n : ℕ) → set (set (set (set (imageOf s) 25 (counterByte 0 n)) 26 (counterByte 1 n)) 27 (counterByte 2 n)) 18 1 ≡ imageOf (withTransfer (record { host = s .transfer .host; scsi = s .transfer .scsi; counter = n; offset = s .transfer .offset; ack = true; last = s .transfer .last }) s)
+acked-on : (s : State) (n : ℕ) → set (set (set (set (imageOf s) counterLowPlace (counterByte 0 n)) counterMiddlePlace (counterByte 1 n)) counterHighPlace (counterByte 2 n)) ackPlace 1 ≡ imageOf (withTransfer (record { host = s .transfer .host; scsi = s .transfer .scsi; counter = n; offset = s .transfer .offset; ack = true; last = s .transfer .last }) s)
 unfolding imageOf
 acked-on s n = refl
 
-offset-kept : (s : State) (x y z : ℕ) → getD (set (set (set (imageOf s) 25 x) 26 y) 27 z) 17 0 ≡ s .transfer .offset
+offset-kept : (s : State) (x y z : ℕ) → getD (set (set (set (imageOf s) counterLowPlace x) counterMiddlePlace y) counterHighPlace z) offsetPlace 0 ≡ s .transfer .offset
 unfolding imageOf
 offset-kept s x y z = refl
 
-low-alone : (s : State) (x : ℕ) → set (imageOf s) 25 x ≡ set (set (set (imageOf s) 25 x) 26 (counterByte 1 (s .transfer .counter))) 27 (counterByte 2 (s .transfer .counter))
+low-alone : (s : State) (x : ℕ) → set (imageOf s) counterLowPlace x ≡ set (set (set (imageOf s) counterLowPlace x) counterMiddlePlace (counterByte 1 (s .transfer .counter))) counterHighPlace (counterByte 2 (s .transfer .counter))
 unfolding imageOf
 low-alone s x = refl
 
-low-at : (s : State) → getD (imageOf s) 25 0 ≡ counterByte 0 (s .transfer .counter)
+low-at : (s : State) → getD (imageOf s) counterLowPlace 0 ≡ counterByte 0 (s .transfer .counter)
 unfolding imageOf
 low-at s = refl
 
@@ -124,57 +125,57 @@ whole-counts : (n k : ℕ) → n ≡ k → (n % 16777216 + 1) % 16777216 ≡ cou
 unfolding counted
 whole-counts n k e = omega arith
 
-low-made : (s : State) (m : List ℕ) → m ≡ imageOf s → s .transfer .counter < counterSize → getD m 25 0 < 255 → set m 25 (getD m 25 0 + 1) ≡ counterPut m (counted (s .transfer .counter))
+low-made : (s : State) (m : List ℕ) → m ≡ imageOf s → s .transfer .counter < counterSize → getD m counterLowPlace 0 < 255 → set m counterLowPlace (getD m counterLowPlace 0 + 1) ≡ counterPut m (counted (s .transfer .counter))
 unfolding counterPut
 low-made s m p f h =
     let n : ℕ = s .transfer .counter in
-    let g : getD m 25 0 ≡ counterByte 0 n = ap (λ (l : List ℕ). getD l 25 0) p ∙ low-at s in
+    let g : getD m counterLowPlace 0 ≡ counterByte 0 n = ap (λ (l : List ℕ). getD l 25 0) p ∙ low-at s in
     let k : counterByte 0 n < 255 = omega arith in
-    ap (λ (x : ℕ). set m 25 (x + 1)) g ∙ ap (λ (l : List ℕ). set l 25 (counterByte 0 n + 1)) p ∙ low-alone s (counterByte 0 n + 1)
-    ∙ ap (λ (x : ℕ). set (set (set (imageOf s) 25 x) 26 (counterByte 1 n)) 27 (counterByte 2 n)) (low-counts n f k)
-    ∙ ap (λ (x : ℕ). set (set (set (imageOf s) 25 (counterByte 0 (counted n))) 26 x) 27 (counterByte 2 n)) (middle-stays n f k)
-    ∙ ap (λ (x : ℕ). set (set (set (imageOf s) 25 (counterByte 0 (counted n))) 26 (counterByte 1 (counted n))) 27 x) (high-stays n f k)
+    ap (λ (x : ℕ). set m counterLowPlace (x + 1)) g ∙ ap (λ (l : List ℕ). set l 25 (counterByte 0 n + 1)) p ∙ low-alone s (counterByte 0 n + 1)
+    ∙ ap (λ (x : ℕ). set (set (set (imageOf s) counterLowPlace x) counterMiddlePlace (counterByte 1 n)) counterHighPlace (counterByte 2 n)) (low-counts n f k)
+    ∙ ap (λ (x : ℕ). set (set (set (imageOf s) counterLowPlace (counterByte 0 (counted n))) counterMiddlePlace x) counterHighPlace (counterByte 2 n)) (middle-stays n f k)
+    ∙ ap (λ (x : ℕ). set (set (set (imageOf s) counterLowPlace (counterByte 0 (counted n))) counterMiddlePlace (counterByte 1 (counted n))) counterHighPlace x) (high-stays n f k)
     ∙ ap (λ (l : List ℕ). counterPut l (counted n)) (sym p)
 
 module _ (s : State) (m m₁ : List ℕ) (o : ℕ) (p : m ≡ imageOf s) (e : m₁ ≡ counterPut m (counted (s .transfer .counter))) where
   put : m₁ ≡ counterPut (imageOf s) (counted (s .transfer .counter))
   put = e ∙ ap (λ (l : List ℕ). counterPut l (counted (s .transfer .counter))) p
 
-  pulse-made : o ≡ getD m₁ 17 0 - 1 → set m₁ 17 o ≡ imageOf (withTransfer (acknowledged true (s .transfer)) s)
+  pulse-made : o ≡ getD m₁ offsetPlace 0 - 1 → set m₁ offsetPlace o ≡ imageOf (withTransfer (acknowledged true (s .transfer)) s)
   unfolding acknowledged counterPut
   pulse-made f =
       let g : o ≡ s .transfer .offset - 1 = f ∙ ap (λ (l : List ℕ). getD l 17 0 - 1) put ∙ ap (λ (k : ℕ). k - 1) (offset-kept s (counterByte 0 (counted (s .transfer .counter))) (counterByte 1 (counted (s .transfer .counter))) (counterByte 2 (counted (s .transfer .counter)))) in
       ap (λ (l : List ℕ). set l 17 o) put ∙ ap (set (counterPut (imageOf s) (counted (s .transfer .counter))) 17) g
       ∙ acked-pulse s (counted (s .transfer .counter)) (s .transfer .offset - 1)
 
-  on-made : set m₁ 18 1 ≡ imageOf (withTransfer (acknowledged false (s .transfer)) s)
+  on-made : set m₁ ackPlace 1 ≡ imageOf (withTransfer (acknowledged false (s .transfer)) s)
   unfolding acknowledged counterPut
   on-made = ap (λ (l : List ℕ). set l 18 1) put ∙ acked-on s (counted (s .transfer .counter))
 
 -- the same of an image
 module _ (m : List ℕ) (i : IsImage m) where
-  pub byte-oldest : 0 < length ((stateAt m) .transfer .scsi) → getD m 28 0 ≡ getD ((stateAt m) .transfer .scsi) 0 0
+  pub byte-oldest : 0 < length ((stateAt m) .transfer .scsi) → getD m scsiBytesPlace 0 ≡ getD ((stateAt m) .transfer .scsi) 0 0
   byte-oldest = oldest (stateAt m) m 0 (length ((stateAt m) .transfer .scsi)) (i .packed) (i .range) refl
 
-  pub byte-sent : (b n : ℕ) → n ≡ getD m 23 0 → b ≡ getD m 28 0 → 0 < length ((stateAt m) .transfer .scsi) → set (set (shifted m) 19 b) 23 (n - 1) ≡ imageOf (withTransfer (passed true [] ((stateAt m) .transfer)) (stateAt m))
+  pub byte-sent : (b n : ℕ) → n ≡ getD m scsiCountPlace 0 → b ≡ getD m scsiBytesPlace 0 → 0 < length ((stateAt m) .transfer .scsi) → set (set (shifted m) lastPlace b) scsiCountPlace (n - 1) ≡ imageOf (withTransfer (passed true [] ((stateAt m) .transfer)) (stateAt m))
   byte-sent b n u v h = sent-made (stateAt m) m b n (i .packed) (i .range) (u ∙ scsi-held m i) h v
 
-  pub byte-stored : (b n : ℕ) → n ≡ getD m 23 0 → length ((stateAt m) .transfer .scsi) < 8 → set (set m (28 + n) b) 23 (n + 1) ≡ imageOf (withTransfer (passed false (b ∷ []) ((stateAt m) .transfer)) (stateAt m))
+  pub byte-stored : (b n : ℕ) → n ≡ getD m scsiCountPlace 0 → length ((stateAt m) .transfer .scsi) < 8 → set (set m (scsiBytesPlace + n) b) scsiCountPlace (n + 1) ≡ imageOf (withTransfer (passed false (b ∷ []) ((stateAt m) .transfer)) (stateAt m))
   byte-stored b n u = stored-made (stateAt m) m b n (i .packed) (i .range) (u ∙ scsi-held m i)
 
-  count-is : (n : ℕ) → n ≡ getD m 25 0 + 256 * getD m 26 0 + 65536 * getD m 27 0 → n ≡ (stateAt m) .transfer .counter
+  count-is : (n : ℕ) → n ≡ getD m counterLowPlace 0 + 256 * getD m counterMiddlePlace 0 + 65536 * getD m counterHighPlace 0 → n ≡ (stateAt m) .transfer .counter
   count-is n e = e ∙ ap (λ (l : List ℕ). getD l 25 0 + 256 * getD l 26 0 + 65536 * getD l 27 0) (i .packed) ∙ counter-at (stateAt m) (i .range .transfer .counter)
 
-  pub count-low : getD m 25 0 < 255 → set m 25 (getD m 25 0 + 1) ≡ counterPut m (counted ((stateAt m) .transfer .counter))
+  pub count-low : getD m counterLowPlace 0 < 255 → set m counterLowPlace (getD m counterLowPlace 0 + 1) ≡ counterPut m (counted ((stateAt m) .transfer .counter))
   count-low = low-made (stateAt m) m (i .packed) (i .range .transfer .counter)
 
-  pub count-whole : (n : ℕ) → n ≡ getD m 25 0 + 256 * getD m 26 0 + 65536 * getD m 27 0 → counterPut m ((n % 16777216 + 1) % 16777216) ≡ counterPut m (counted ((stateAt m) .transfer .counter))
+  pub count-whole : (n : ℕ) → n ≡ getD m counterLowPlace 0 + 256 * getD m counterMiddlePlace 0 + 65536 * getD m counterHighPlace 0 → counterPut m ((n % 16777216 + 1) % 16777216) ≡ counterPut m (counted ((stateAt m) .transfer .counter))
   count-whole n u = ap (counterPut m) (whole-counts n ((stateAt m) .transfer .counter) (count-is n u))
 
-  pub ack-pulse : (m₁ : List ℕ) (o : ℕ) → m₁ ≡ counterPut m (counted ((stateAt m) .transfer .counter)) → o ≡ getD m₁ 17 0 - 1 → set m₁ 17 o ≡ imageOf (withTransfer (acknowledged true ((stateAt m) .transfer)) (stateAt m))
+  pub ack-pulse : (m₁ : List ℕ) (o : ℕ) → m₁ ≡ counterPut m (counted ((stateAt m) .transfer .counter)) → o ≡ getD m₁ offsetPlace 0 - 1 → set m₁ offsetPlace o ≡ imageOf (withTransfer (acknowledged true ((stateAt m) .transfer)) (stateAt m))
   ack-pulse m₁ o e f = pulse-made (stateAt m) m m₁ o (i .packed) e f
 
-  pub ack-on : (m₁ : List ℕ) → m₁ ≡ counterPut m (counted ((stateAt m) .transfer .counter)) → set m₁ 18 1 ≡ imageOf (withTransfer (acknowledged false ((stateAt m) .transfer)) (stateAt m))
+  pub ack-on : (m₁ : List ℕ) → m₁ ≡ counterPut m (counted ((stateAt m) .transfer .counter)) → set m₁ ackPlace 1 ≡ imageOf (withTransfer (acknowledged false ((stateAt m) .transfer)) (stateAt m))
   ack-on m₁ e = on-made (stateAt m) m m₁ 0 (i .packed) e
 
 -- inbound: nothing stored, or one byte

@@ -23,38 +23,39 @@ use Rattle.image.specs.Image.{headOf, imageOf, stateAt, registersAt, linesAt, t
 use Rattle.image.proofs.EightBits.{is-one}
 use Rattle.settling.specs.Laid.{laid}
 use Rattle.settling.proofs.Places.{Sized, image-laid, laid-long, host-from, scsi-from}
+use Rattle.image.specs.Layout.{ackPlace, counterHighPlace, counterLowPlace, counterMiddlePlace, hostBytesPlace, hostCountPlace, identityPlace, imageSize, lastPlace, latchesPlace, offsetPlace, pointerPlace, quietPlace, scsiBytesPlace, scsiCountPlace, stackBytesPlace, statusPlace}
 
-pub scsi-count : (s : State) → getD (imageOf s) 23 0 ≡ length (s .transfer .scsi)
+pub scsi-count : (s : State) → getD (imageOf s) scsiCountPlace 0 ≡ length (s .transfer .scsi)
 unfolding imageOf
 scsi-count s = refl
 
-pub host-count : (s : State) → getD (imageOf s) 24 0 ≡ length (s .transfer .host)
+pub host-count : (s : State) → getD (imageOf s) hostCountPlace 0 ≡ length (s .transfer .host)
 unfolding imageOf
 host-count s = refl
 
-pub offset-at : (s : State) → getD (imageOf s) 17 0 ≡ s .transfer .offset
+pub offset-at : (s : State) → getD (imageOf s) offsetPlace 0 ≡ s .transfer .offset
 unfolding imageOf
 offset-at s = refl
 
-pub ack-at : (s : State) → getD (imageOf s) 18 0 ≡ one (s .transfer .ack)
+pub ack-at : (s : State) → getD (imageOf s) ackPlace 0 ≡ one (s .transfer .ack)
 unfolding imageOf
 ack-at s = refl
 
-last-at : (s : State) → getD (imageOf s) 19 0 ≡ s .transfer .last
+last-at : (s : State) → getD (imageOf s) lastPlace 0 ≡ s .transfer .last
 unfolding imageOf
 last-at s = refl
 
 counter-read : (n : ℕ) → n < counterSize → counterByte 0 n + 256 * counterByte 1 n + 65536 * counterByte 2 n ≡ n
 counter-read n h = omega arith
 
-pub counter-at : (s : State) → s .transfer .counter < counterSize → getD (imageOf s) 25 0 + 256 * getD (imageOf s) 26 0 + 65536 * getD (imageOf s) 27 0 ≡ s .transfer .counter
+pub counter-at : (s : State) → s .transfer .counter < counterSize → getD (imageOf s) counterLowPlace 0 + 256 * getD (imageOf s) counterMiddlePlace 0 + 65536 * getD (imageOf s) counterHighPlace 0 ≡ s .transfer .counter
 unfolding imageOf
 counter-at s h = counter-read (s .transfer .counter) h
 
 pub sized : (s : State) → TransferFits (s .transfer) → StackFits (s .stack) → Sized (headOf s) (s .transfer .scsi) (s .stack .bytes) (s .transfer .host)
 sized s f k = record { head = refl; scsi = f .scsi; stack = k .size; host = f .host }
 
-pub image-long : (s : State) → TransferFits (s .transfer) → StackFits (s .stack) → length (imageOf s) ≡ 196
+pub image-long : (s : State) → TransferFits (s .transfer) → StackFits (s .stack) → length (imageOf s) ≡ imageSize
 image-long s f k = ap length (image-laid s) ∙ laid-long (sized s f k)
 
 same-transfer : {h h′ q q′ : List ℕ} {n n′ o o′ : ℕ} {a a′ : Bool} {l l′ : ℕ} → h ≡ h′ → q ≡ q′ → n ≡ n′ → o ≡ o′ → a ≡ a′ → l ≡ l′ → _≡_ {A = Transfer} (record { host = h; scsi = q; counter = n; offset = o; ack = a; last = l }) (record { host = h′; scsi = q′; counter = n′; offset = o′; ack = a′; last = l′ })
@@ -64,30 +65,30 @@ module _ (s : State) (f : TransferFits (s .transfer)) (k : StackFits (s .stack))
   z : Sized (headOf s) (s .transfer .scsi) (s .stack .bytes) (s .transfer .host)
   z = sized s f k
 
-  host-read : take (getD (imageOf s) 24 0) (drop 68 (imageOf s)) ≡ s .transfer .host
+  host-read : take (getD (imageOf s) hostCountPlace 0) (drop hostBytesPlace (imageOf s)) ≡ s .transfer .host
   host-read =
-      ap (λ (n : ℕ). take n (drop 68 (imageOf s))) (host-count s) ∙ ap (λ (l : List ℕ). take (length (s .transfer .host)) (drop 68 l)) (image-laid s)
+      ap (λ (n : ℕ). take n (drop hostBytesPlace (imageOf s))) (host-count s) ∙ ap (λ (l : List ℕ). take (length (s .transfer .host)) (drop hostBytesPlace l)) (image-laid s)
       ∙ host-from z (length (s .transfer .host)) (le-refl _) ∙ take-length (s .transfer .host)
 
-  scsi-read : take (getD (imageOf s) 23 0) (drop 28 (imageOf s)) ≡ s .transfer .scsi
+  scsi-read : take (getD (imageOf s) scsiCountPlace 0) (drop scsiBytesPlace (imageOf s)) ≡ s .transfer .scsi
   scsi-read =
-      ap (λ (n : ℕ). take n (drop 28 (imageOf s))) (scsi-count s) ∙ ap (λ (l : List ℕ). take (length (s .transfer .scsi)) (drop 28 l)) (image-laid s)
+      ap (λ (n : ℕ). take n (drop scsiBytesPlace (imageOf s))) (scsi-count s) ∙ ap (λ (l : List ℕ). take (length (s .transfer .scsi)) (drop scsiBytesPlace l)) (image-laid s)
       ∙ scsi-from z (length (s .transfer .scsi)) (le-refl _) ∙ take-length (s .transfer .scsi)
 
   transfer-read : transferAt (imageOf s) ≡ s .transfer
   transfer-read =
       same-transfer host-read scsi-read (counter-at s (f .counter)) (offset-at s) (ap (λ (n : ℕ). eqb n 1) (ack-at s) ∙ is-one (s .transfer .ack)) (last-at s)
 
-  stack-part : (a p k r : List ℕ) → length (a ++ p) ≡ 36 → length k ≡ 32 → take 32 (drop 36 (a ++ (p ++ (k ++ r)))) ≡ k
+  stack-part : (a p k r : List ℕ) → length (a ++ p) ≡ 36 → length k ≡ 32 → take 32 (drop stackBytesPlace (a ++ (p ++ (k ++ r)))) ≡ k
   stack-part a p k r e g =
-      ap (λ (l : List ℕ). take 32 (drop 36 l)) (sym (append-assoc a p (k ++ r))) ∙ ap (take 32) (drop-at (a ++ p) (k ++ r) 36 e) ∙ take-at k r 32 g
+      ap (λ (l : List ℕ). take 32 (drop stackBytesPlace l)) (sym (append-assoc a p (k ++ r))) ∙ ap (take 32) (drop-at (a ++ p) (k ++ r) 36 e) ∙ take-at k r 32 g
 
-  stack-read : take 32 (drop 36 (imageOf s)) ≡ s .stack .bytes
+  stack-read : take 32 (drop stackBytesPlace (imageOf s)) ≡ s .stack .bytes
   unfolding laid
   stack-read =
       let e : length (padded 8 (s .transfer .scsi)) ≡ 8 = padded-length 8 (s .transfer .scsi) (f .scsi) in
-      let g : length (headOf s ++ padded 8 (s .transfer .scsi)) ≡ 36 = length-append (headOf s) (padded 8 (s .transfer .scsi)) ∙ ap (λ (n : ℕ). 28 + n) e in
-      ap (λ (l : List ℕ). take 32 (drop 36 l)) (image-laid s)
+      let g : length (headOf s ++ padded 8 (s .transfer .scsi)) ≡ 36 = length-append (headOf s) (padded 8 (s .transfer .scsi)) ∙ ap (λ (n : ℕ). scsiBytesPlace + n) e in
+      ap (λ (l : List ℕ). take 32 (drop stackBytesPlace l)) (image-laid s)
       ∙ stack-part (headOf s) (padded 8 (s .transfer .scsi)) (s .stack .bytes) (padded 128 (s .transfer .host) ++ []) g (k .size)
 
 -- what a change of the data path leaves
@@ -100,23 +101,23 @@ module _ (t : Transfer) (s : State) where
   unfolding imageOf
   lines-kept = refl
 
-  status-kept : statusOf (getD (imageOf (withTransfer t s)) 12 0) ≡ statusOf (getD (imageOf s) 12 0)
+  status-kept : statusOf (getD (imageOf (withTransfer t s)) statusPlace 0) ≡ statusOf (getD (imageOf s) statusPlace 0)
   unfolding imageOf
   status-kept = refl
 
-  latches-kept : latchesOf (getD (imageOf (withTransfer t s)) 13 0) ≡ latchesOf (getD (imageOf s) 13 0)
+  latches-kept : latchesOf (getD (imageOf (withTransfer t s)) latchesPlace 0) ≡ latchesOf (getD (imageOf s) latchesPlace 0)
   unfolding imageOf
   latches-kept = refl
 
-  pointer-read : getD (imageOf (withTransfer t s)) 22 0 ≡ s .stack .pointer
+  pointer-read : getD (imageOf (withTransfer t s)) pointerPlace 0 ≡ s .stack .pointer
   unfolding imageOf
   pointer-read = refl
 
-  quiet-read : getD (imageOf (withTransfer t s)) 20 0 ≡ s .quiet
+  quiet-read : getD (imageOf (withTransfer t s)) quietPlace 0 ≡ s .quiet
   unfolding imageOf
   quiet-read = refl
 
-  identity-read : getD (imageOf (withTransfer t s)) 21 0 ≡ s .identity
+  identity-read : getD (imageOf (withTransfer t s)) identityPlace 0 ≡ s .identity
   unfolding imageOf
   identity-read = refl
 
@@ -136,11 +137,11 @@ module _ (m : List ℕ) (s : State) (p : m ≡ imageOf s) (e : s ≡ stateAt m) 
   unfolding stateAt
   at-lines = ap linesAt (sym p) ∙ ap (λ (x : State). x .lines) (sym e)
 
-  at-status : statusOf (getD (imageOf s) 12 0) ≡ s .status
+  at-status : statusOf (getD (imageOf s) statusPlace 0) ≡ s .status
   unfolding stateAt
   at-status = ap (λ (l : List ℕ). statusOf (getD l 12 0)) (sym p) ∙ ap (λ (x : State). x .status) (sym e)
 
-  at-latches : latchesOf (getD (imageOf s) 13 0) ≡ s .latches
+  at-latches : latchesOf (getD (imageOf s) latchesPlace 0) ≡ s .latches
   unfolding stateAt
   at-latches = ap (λ (l : List ℕ). latchesOf (getD l 13 0)) (sym p) ∙ ap (λ (x : State). x .latches) (sym e)
 
@@ -163,11 +164,11 @@ kept m m′ t i f b e =
     )
 
 -- the length of an image
-pub long : (m : List ℕ) → IsImage m → length m ≡ 196
+pub long : (m : List ℕ) → IsImage m → length m ≡ imageSize
 long m i = ap length (i .packed) ∙ image-long (stateAt m) (i .range .transfer) (i .range .stack)
 
-pub offset-held : (m : List ℕ) → IsImage m → getD m 17 0 ≡ (stateAt m) .transfer .offset
+pub offset-held : (m : List ℕ) → IsImage m → getD m offsetPlace 0 ≡ (stateAt m) .transfer .offset
 offset-held m i = ap (λ (l : List ℕ). getD l 17 0) (i .packed) ∙ offset-at (stateAt m)
 
-pub ack-held : (m : List ℕ) → IsImage m → eqb (getD m 18 0) 1 ≡ (stateAt m) .transfer .ack
+pub ack-held : (m : List ℕ) → IsImage m → eqb (getD m ackPlace 0) 1 ≡ (stateAt m) .transfer .ack
 ack-held m i = ap (λ (l : List ℕ). eqb (getD l 18 0) 1) (i .packed) ∙ ap (λ (n : ℕ). eqb n 1) (ack-at (stateAt m)) ∙ is-one ((stateAt m) .transfer .ack)

@@ -10,6 +10,7 @@ use Rattle.rules.specs.State.{State, Transfer}
 use Rattle.laws.proofs.Lists.{padded-length, padded-take}
 use Rattle.rules.specs.Changed.{withTransfer}
 use Rattle.image.specs.Image.{headOf, imageOf}
+use Rattle.image.specs.Layout.{hostBytesPlace, imageSize, scsiBytesPlace}
 use Rattle.settling.specs.Laid.{laid, lowered}
 use Rattle.settling.proofs.Parts.{join-at, lower-at}
 
@@ -37,17 +38,17 @@ module _ {a q k h : List ℕ} (z : Sized a q k h) where
   unfolding laid
   laid-host = simp append-assoc
 
-  pub laid-long : length (laid a q k h) ≡ 196
+  pub laid-long : length (laid a q k h) ≡ imageSize
   laid-long =
       let e : length (padded 128 h) ≡ 128 = padded-length 128 h (z .host) in
       let f : length (padded 8 q) ≡ 8 = padded-length 8 q (z .scsi) in
       ap length laid-host ∙ simp (length-append, append-nil) (omega (arith, before-long))
 
-  pub scsi-joined : (s : List ℕ) (at n : ℕ) → at ≡ 28 + length q → length q + n ≤ 8 → n ≤ length s → paste (laid a q k h) at s n ≡ laid a (q ++ take n s) k h
+  pub scsi-joined : (s : List ℕ) (at n : ℕ) → at ≡ scsiBytesPlace + length q → length q + n ≤ 8 → n ≤ length s → paste (laid a q k h) at s n ≡ laid a (q ++ take n s) k h
   unfolding laid
   scsi-joined s at n e f g = join-at 8 a q (k ++ (padded 128 h ++ [])) s at n (omega (arith, z .head)) f g
 
-  pub host-joined : (s : List ℕ) (at n : ℕ) → at ≡ 68 + length h → length h + n ≤ 128 → n ≤ length s → paste (laid a q k h) at s n ≡ laid a q k (h ++ take n s)
+  pub host-joined : (s : List ℕ) (at n : ℕ) → at ≡ hostBytesPlace + length h → length h + n ≤ 128 → n ≤ length s → paste (laid a q k h) at s n ≡ laid a q k (h ++ take n s)
   unfolding laid
   host-joined s at n e f g =
       ap (λ (x : List ℕ). paste x at s n) laid-host ∙ join-at 128 (a ++ padded 8 q ++ k) h [] s at n (omega (arith, before-long)) f g
@@ -70,13 +71,13 @@ module _ {a q k h : List ℕ} (z : Sized a q k h) where
       grouped y = simp append-assoc
 
   -- the bytes of the host FIFO from the front
-  pub host-from : (n : ℕ) → n ≤ length h → take n (drop 68 (laid a q k h)) ≡ take n h
+  pub host-from : (n : ℕ) → n ≤ length h → take n (drop hostBytesPlace (laid a q k h)) ≡ take n h
   unfolding padded
   host-from n e =
-      ap (λ (x : List ℕ). take n (drop 68 x)) laid-host ∙ ap (take n) (drop-at (a ++ padded 8 q ++ k) (padded 128 h ++ []) 68 before-long ∙ append-nil (padded 128 h))
+      ap (λ (x : List ℕ). take n (drop hostBytesPlace x)) laid-host ∙ ap (take n) (drop-at (a ++ padded 8 q ++ k) (padded 128 h ++ []) 68 before-long ∙ append-nil (padded 128 h))
       ∙ take-append-le n h _ e
 
-  pub scsi-from : (n : ℕ) → n ≤ length q → take n (drop 28 (laid a q k h)) ≡ take n q
+  pub scsi-from : (n : ℕ) → n ≤ length q → take n (drop scsiBytesPlace (laid a q k h)) ≡ take n q
   unfolding laid padded
   scsi-from n e =
       ap (take n) (drop-at a (padded 8 q ++ (k ++ (padded 128 h ++ []))) 28 (z .head) ∙ append-assoc q _ _)

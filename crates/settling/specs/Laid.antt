@@ -5,6 +5,7 @@ use lib.ListN.{drop, replicate, set}
 use lib.Seq.{paste}
 use Rattle.rules.specs.Numbers.{padded}
 use Rattle.rules.specs.Counter.{counterByte}
+use Rattle.image.specs.Layout.{counterHighPlace, counterLowPlace, counterMiddlePlace}
 
 -- head, SCSI FIFO, stack and host FIFO
 unfoldable pub laid : List ℕ → List ℕ → List ℕ → List ℕ → List ℕ
@@ -16,4 +17,4 @@ lowered m at n k = paste (paste m at (drop (at + k) m) (n - k)) (at + (n - k)) (
 
 -- the counter n in its three places
 unfoldable pub counterPut : List ℕ → ℕ → List ℕ
-counterPut m n = set (set (set m 25 (counterByte 0 n)) 26 (counterByte 1 n)) 27 (counterByte 2 n)
+counterPut m n = set (set (set m counterLowPlace (counterByte 0 n)) counterMiddlePlace (counterByte 1 n)) counterHighPlace (counterByte 2 n)

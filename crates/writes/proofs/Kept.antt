@@ -18,6 +18,7 @@ use Rattle.rules.specs.Changed.{withRegisters}
 use Rattle.image.specs.Image.{IsImage, imageOf, stateAt, scsisigByte, scsirateByte, scsiidByte}
 use Rattle.image.proofs.EightBits.{bit-0, bit-1, bit-2, bit-3, bit-4, bit-5, bit-6, bit-7}
 use Rattle.writes.proofs.Places.{of-image}
+use Rattle.image.specs.Layout.{brstcntrlPlace, dmacntrl0Place, dmacntrl1Place, scsidatPlace, scsiidPlace, scsiratePlace, scsiseqPlace, scsisigPlace, simode0Place, simode1Place, sxfrctl0Place, sxfrctl1Place}
 
 -- the state after a write of v at offset o
 abbrev pub after : ℕ → ℕ → State → State
@@ -31,60 +32,60 @@ puts : (o v k : ℕ) (b : List ℕ → ℕ) → ((s : State) → set (imageOf s)
 puts o v k b law = of-image (λ (m : List ℕ). set m k (b m)) (after o v) law
 
 module _ (v : ℕ) (s : State) where
-  at-0 : set (imageOf s) 0 (scsiseqByte (scsiseqOf v)) ≡ imageOf (after 0 v s)
+  at-0 : set (imageOf s) scsiseqPlace (scsiseqByte (scsiseqOf v)) ≡ imageOf (after 0 v s)
   unfolding imageOf registersA clears writes valueOf
   at-0 = refl
 
-  at-1 : set (imageOf s) 1 (sxfrctl0Byte (sxfrctl0Of v)) ≡ imageOf (after 1 v s)
+  at-1 : set (imageOf s) sxfrctl0Place (sxfrctl0Byte (sxfrctl0Of v)) ≡ imageOf (after 1 v s)
   unfolding imageOf registersA clears writes valueOf
   at-1 = refl
 
-  at-2 : set (imageOf s) 2 (sxfrctl1Byte (sxfrctl1Of v)) ≡ imageOf (after 2 v s)
+  at-2 : set (imageOf s) sxfrctl1Place (sxfrctl1Byte (sxfrctl1Of v)) ≡ imageOf (after 2 v s)
   unfolding imageOf registersA clears writes valueOf
   at-2 = refl
 
-  at-3 : set (imageOf s) 3 (scsisigByte (scsisigOf (s .registers .scsisig .atno) v)) ≡ imageOf (after 3 v s)
+  at-3 : set (imageOf s) scsisigPlace (scsisigByte (scsisigOf (s .registers .scsisig .atno) v)) ≡ imageOf (after 3 v s)
   unfolding imageOf registersA clears writes valueOf
   at-3 = refl
 
-  at-4 : set (imageOf s) 4 (scsirateByte (scsirateOf v)) ≡ imageOf (after 4 v s)
+  at-4 : set (imageOf s) scsiratePlace (scsirateByte (scsirateOf v)) ≡ imageOf (after 4 v s)
   unfolding imageOf registersA clears writes valueOf
   at-4 = refl
 
-  at-5 : set (imageOf s) 5 (scsiidByte (scsiidOf v)) ≡ imageOf (after 5 v s)
+  at-5 : set (imageOf s) scsiidPlace (scsiidByte (scsiidOf v)) ≡ imageOf (after 5 v s)
   unfolding imageOf registersA clears writes valueOf
   at-5 = refl
 
-  at-6 : set (imageOf s) 6 v ≡ imageOf (after 6 v s)
+  at-6 : set (imageOf s) scsidatPlace v ≡ imageOf (after 6 v s)
   unfolding imageOf registersA clears writes valueOf
   at-6 = refl
 
-  at-12 : set (imageOf s) 3 (scsisigByte (withAtn (not (bit v 6) && s .registers .scsisig .atno) (s .registers .scsisig))) ≡ imageOf (after 12 v s)
+  at-12 : set (imageOf s) scsisigPlace (scsisigByte (withAtn (not (bit v 6) && s .registers .scsisig .atno) (s .registers .scsisig))) ≡ imageOf (after 12 v s)
   unfolding imageOf registersA clears writes valueOf
   at-12 = refl
 
-  at-16 : set (imageOf s) 7 (simode0Byte (simode0Of v)) ≡ imageOf (after 16 v s)
+  at-16 : set (imageOf s) simode0Place (simode0Byte (simode0Of v)) ≡ imageOf (after 16 v s)
   unfolding imageOf registersA clears writes valueOf
   at-16 = refl
 
-  at-17 : set (imageOf s) 8 (simode1Byte (simode1Of v)) ≡ imageOf (after 17 v s)
+  at-17 : set (imageOf s) simode1Place (simode1Byte (simode1Of v)) ≡ imageOf (after 17 v s)
   unfolding imageOf registersA clears writes valueOf
   at-17 = refl
 
-  at-18 : set (imageOf s) 9 (dmacntrl0Byte (dmacntrl0Of v)) ≡ imageOf (after 18 v s)
+  at-18 : set (imageOf s) dmacntrl0Place (dmacntrl0Byte (dmacntrl0Of v)) ≡ imageOf (after 18 v s)
   unfolding imageOf registersA clears writes valueOf
   at-18 = refl
 
-  at-19 : set (imageOf s) 10 (dmacntrl1Byte (dmacntrl1Of v) 0) ≡ imageOf (after 19 v s)
+  at-19 : set (imageOf s) dmacntrl1Place (dmacntrl1Byte (dmacntrl1Of v) 0) ≡ imageOf (after 19 v s)
   unfolding imageOf registersA clears writes valueOf
   at-19 = refl
 
-  at-24 : set (imageOf s) 11 v ≡ imageOf (after 24 v s)
+  at-24 : set (imageOf s) brstcntrlPlace v ≡ imageOf (after 24 v s)
   unfolding imageOf registersA clears writes valueOf
   at-24 = refl
 
 -- 343h as it stands
-sig-byte : (s : State) → getD (imageOf s) 3 0 ≡ scsisigByte (s .registers .scsisig)
+sig-byte : (s : State) → getD (imageOf s) scsisigPlace 0 ≡ scsisigByte (s .registers .scsisig)
 unfolding imageOf
 sig-byte s = refl
 
@@ -117,20 +118,20 @@ module _ (v : ℕ) where
   pub put-sxfrctl1 : Puts 2 v 2 (λ (m : List ℕ). sxfrctl1Byte (sxfrctl1Of v))
   put-sxfrctl1 = puts 2 v 2 (λ (m : List ℕ). sxfrctl1Byte (sxfrctl1Of v)) (at-2 v)
 
-  pub put-scsisig : Puts 3 v 3 (λ (m : List ℕ). scsisigByte (scsisigOf (bit (getD m 3 0) 4) v))
-  put-scsisig = puts 3 v 3 (λ (m : List ℕ). scsisigByte (scsisigOf (bit (getD m 3 0) 4) v)) (λ (s : State). ap (λ (a : Bool). set (imageOf s) 3 (scsisigByte (scsisigOf a v))) (ap (λ (x : ℕ). bit x 4) (sig-byte s) ∙ atn-bit (s .registers .scsisig)) ∙ at-3 v s)
+  pub put-scsisig : Puts 3 v 3 (λ (m : List ℕ). scsisigByte (scsisigOf (bit (getD m scsisigPlace 0) 4) v))
+  put-scsisig = puts 3 v 3 (λ (m : List ℕ). scsisigByte (scsisigOf (bit (getD m scsisigPlace 0) 4) v)) (λ (s : State). ap (λ (a : Bool). set (imageOf s) scsisigPlace (scsisigByte (scsisigOf a v))) (ap (λ (x : ℕ). bit x 4) (sig-byte s) ∙ atn-bit (s .registers .scsisig)) ∙ at-3 v s)
 
   pub put-scsirate : Puts 4 v 4 (λ (m : List ℕ). v % 128)
-  put-scsirate = puts 4 v 4 (λ (m : List ℕ). v % 128) (λ (s : State). ap (λ (x : ℕ). set (imageOf s) 4 x) (rate-byte v) ∙ at-4 v s)
+  put-scsirate = puts 4 v 4 (λ (m : List ℕ). v % 128) (λ (s : State). ap (λ (x : ℕ). set (imageOf s) scsiratePlace x) (rate-byte v) ∙ at-4 v s)
 
   pub put-scsiid : Puts 5 v 5 (λ (m : List ℕ). v / 2 ^ 4 % 8 * 16 + v % 8)
-  put-scsiid = puts 5 v 5 (λ (m : List ℕ). v / 2 ^ 4 % 8 * 16 + v % 8) (λ (s : State). ap (λ (x : ℕ). set (imageOf s) 5 x) (id-byte v) ∙ at-5 v s)
+  put-scsiid = puts 5 v 5 (λ (m : List ℕ). v / 2 ^ 4 % 8 * 16 + v % 8) (λ (s : State). ap (λ (x : ℕ). set (imageOf s) scsiidPlace x) (id-byte v) ∙ at-5 v s)
 
   pub put-scsidat : Puts 6 v 6 (λ (m : List ℕ). v)
   put-scsidat = puts 6 v 6 (λ (m : List ℕ). v) (at-6 v)
 
-  pub put-clrsint1 : Puts 12 v 3 (λ (m : List ℕ). sigCleared v (getD m 3 0))
-  put-clrsint1 = puts 12 v 3 (λ (m : List ℕ). sigCleared v (getD m 3 0)) (λ (s : State). ap (λ (x : ℕ). set (imageOf s) 3 x) (ap (sigCleared v) (sig-byte s) ∙ sig-cleared v (s .registers .scsisig)) ∙ at-12 v s)
+  pub put-clrsint1 : Puts 12 v 3 (λ (m : List ℕ). sigCleared v (getD m scsisigPlace 0))
+  put-clrsint1 = puts 12 v 3 (λ (m : List ℕ). sigCleared v (getD m scsisigPlace 0)) (λ (s : State). ap (λ (x : ℕ). set (imageOf s) scsisigPlace x) (ap (sigCleared v) (sig-byte s) ∙ sig-cleared v (s .registers .scsisig)) ∙ at-12 v s)
 
   pub put-simode0 : Puts 16 v 7 (λ (m : List ℕ). simode0Byte (simode0Of v))
   put-simode0 = puts 16 v 7 (λ (m : List ℕ). simode0Byte (simode0Of v)) (at-16 v)

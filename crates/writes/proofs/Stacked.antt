@@ -16,6 +16,7 @@ use Rattle.laws.proofs.Lists.{padded-length}
 use Rattle.stack.proofs.Places.{place-lt}
 use Rattle.rules.specs.Changed.{withStack}
 use Rattle.image.specs.Image.{IsImage, imageOf, headOf, stateAt}
+use Rattle.image.specs.Layout.{dmacntrl1Place, pointerPlace, stackBytesPlace}
 
 -- a store past the first part
 set-append-add : (xs ys : List ℕ) (n a : ℕ) → set (xs ++ ys) (length xs + n) a ≡ xs ++ set ys n a
@@ -31,36 +32,36 @@ set-middle p b t k i a e lt =
     ∙ ap (λ (r : List ℕ). r ++ t) (ap (λ (x : ℕ). set (p ++ b) x a) e ∙ set-append-add p b i a)
 
 -- the stack comes after the 28 bytes and the SCSI FIFO
-before-stack : (h q : List ℕ) → length h ≡ 28 → length q ≡ 8 → (i : ℕ) → 36 + i ≡ length (h ++ q) + i
+before-stack : (h q : List ℕ) → length h ≡ 28 → length q ≡ 8 → (i : ℕ) → stackBytesPlace + i ≡ length (h ++ q) + i
 before-stack h q e f i = omega (arith, length-append h q, e, f)
 
 abbrev pub stackOf : List ℕ → ℕ → Stack
 stackOf b p = record { bytes = b; pointer = p }
 
-byte-image : (s : State) → InRange s → (i a : ℕ) → i < 32 → set (imageOf s) (36 + i) a ≡ imageOf (withStack (stackOf (set (s .stack .bytes) i a) (s .stack .pointer)) s)
+byte-image : (s : State) → InRange s → (i a : ℕ) → i < 32 → set (imageOf s) (stackBytesPlace + i) a ≡ imageOf (withStack (stackOf (set (s .stack .bytes) i a) (s .stack .pointer)) s)
 unfolding imageOf
 byte-image s r i a lt =
     let q = padded 8 (s .transfer .scsi) in
     let n : length q ≡ 8 = padded-length 8 (s .transfer .scsi) (r .transfer .scsi) in
     let z : length (s .stack .bytes) ≡ 32 = r .stack .size in
     let f : i < length (s .stack .bytes) = omega (arith, z, lt) in
-    set-middle (headOf s ++ q) (s .stack .bytes) (padded 128 (s .transfer .host)) (36 + i) i a (before-stack (headOf s) q refl n i) f
+    set-middle (headOf s ++ q) (s .stack .bytes) (padded 128 (s .transfer .host)) (stackBytesPlace + i) i a (before-stack (headOf s) q refl n i) f
 
-pointer-image : (p : ℕ) (s : State) → set (imageOf s) 22 p ≡ imageOf (withStack (stackOf (s .stack .bytes) p) s)
+pointer-image : (p : ℕ) (s : State) → set (imageOf s) pointerPlace p ≡ imageOf (withStack (stackOf (s .stack .bytes) p) s)
 unfolding imageOf
 pointer-image p s = refl
 
-both-image : (s : State) → InRange s → (i a p : ℕ) → i < 32 → set (set (imageOf s) (36 + i) a) 22 p ≡ imageOf (withStack (stackOf (set (s .stack .bytes) i a) p) s)
+both-image : (s : State) → InRange s → (i a p : ℕ) → i < 32 → set (set (imageOf s) (stackBytesPlace + i) a) pointerPlace p ≡ imageOf (withStack (stackOf (set (s .stack .bytes) i a) p) s)
 both-image s r i a p lt =
-    ap (λ (m : List ℕ). set m 22 p) (byte-image s r i a lt)
+    ap (λ (m : List ℕ). set m pointerPlace p) (byte-image s r i a lt)
     ∙ pointer-image p (withStack (stackOf (set (s .stack .bytes) i a) (s .stack .pointer)) s)
 
 -- ENSTK32 and the pointer as an image has them
 abbrev pub wideAt : List ℕ → Bool
-wideAt m = bit (getD m 10 0) 6
+wideAt m = bit (getD m dmacntrl1Place 0) 6
 
 abbrev pub pointerAt : List ℕ → ℕ
-pointerAt m = getD m 22 0
+pointerAt m = getD m pointerPlace 0
 
 abbrev pub placeOf : Bool → ℕ → ℕ
 placeOf w p = p % stackSize w
@@ -84,24 +85,24 @@ unfolding stateAt stackPlace pointerAfter
 next-at m = refl
 
 -- the array after a write and a read of 35Dh, and after a write of 353h
-pub pushed-image : (v : ℕ) (m : List ℕ) → IsImage m → set (set m (36 + placeOf (wideAt m) (pointerAt m)) v) 22 (nextOf (wideAt m) (pointerAt m)) ≡ imageOf (withStack (stackWritten (enstk32At m) v ((stateAt m) .stack)) (stateAt m))
+pub pushed-image : (v : ℕ) (m : List ℕ) → IsImage m → set (set m (stackBytesPlace + placeOf (wideAt m) (pointerAt m)) v) pointerPlace (nextOf (wideAt m) (pointerAt m)) ≡ imageOf (withStack (stackWritten (enstk32At m) v ((stateAt m) .stack)) (stateAt m))
 unfolding stackWritten
 pushed-image v m i =
     let w = enstk32At m in
     let k = (stateAt m) .stack in
-    ap (λ (x : ℕ). set (set m (36 + x) v) 22 (nextOf (wideAt m) (pointerAt m))) (place-at m)
-    ∙ ap (λ (x : ℕ). set (set m (36 + stackPlace w k) v) 22 x) (next-at m)
-    ∙ ap (λ (x : List ℕ). set (set x (36 + stackPlace w k) v) 22 (pointerAfter w k)) (i .packed)
+    ap (λ (x : ℕ). set (set m (stackBytesPlace + x) v) pointerPlace (nextOf (wideAt m) (pointerAt m))) (place-at m)
+    ∙ ap (λ (x : ℕ). set (set m (stackBytesPlace + stackPlace w k) v) pointerPlace x) (next-at m)
+    ∙ ap (λ (x : List ℕ). set (set x (stackBytesPlace + stackPlace w k) v) 22 (pointerAfter w k)) (i .packed)
     ∙ both-image (stateAt m) (i .range) (stackPlace w k) v (pointerAfter w k) (place-lt w k)
 
-pub popped-image : (m : List ℕ) → IsImage m → set m 22 (nextOf (wideAt m) (pointerAt m)) ≡ imageOf (withStack (stackRead (enstk32At m) ((stateAt m) .stack)) (stateAt m))
+pub popped-image : (m : List ℕ) → IsImage m → set m pointerPlace (nextOf (wideAt m) (pointerAt m)) ≡ imageOf (withStack (stackRead (enstk32At m) ((stateAt m) .stack)) (stateAt m))
 unfolding stackRead
 popped-image m i =
     let p = pointerAfter (enstk32At m) ((stateAt m) .stack) in
-    ap (λ (x : ℕ). set m 22 x) (next-at m)
+    ap (λ (x : ℕ). set m pointerPlace x) (next-at m)
     ∙ ap (λ (x : List ℕ). set x 22 p) (i .packed)
     ∙ pointer-image p (stateAt m)
 
-pub pointed-image : (v : ℕ) (m : List ℕ) → IsImage m → set m 22 (v % 32) ≡ imageOf (withStack (pointed v ((stateAt m) .stack)) (stateAt m))
+pub pointed-image : (v : ℕ) (m : List ℕ) → IsImage m → set m pointerPlace (v % 32) ≡ imageOf (withStack (pointed v ((stateAt m) .stack)) (stateAt m))
 unfolding pointed
 pointed-image v m i = ap (λ (x : List ℕ). set x 22 (v % 32)) (i .packed) ∙ pointer-image (v % 32) (stateAt m)

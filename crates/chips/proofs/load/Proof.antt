@@ -2,6 +2,7 @@ use borrow.Author.Needs.{needs}
 use lib.ListN.{getD}
 use Rattle.rules.specs.Chips.{chipOf}
 use Rattle.image.specs.Image.{stateAt}
+use Rattle.image.specs.Layout.{identityPlace, quietPlace}
 use Rattle.chips.proofs.load.Statement.{statement}
 use Rattle.chips.proofs.load.Tie as tie
 
@@ -17,8 +18,8 @@ returns c =
       status = c .before .before .before .before .before .status-of .ensures i;
       latches = c .before .before .before .latches-of .ensures i;
       stack = c .before .before .stack-at .ensures i;
-      quiet = getD m 20 0;
-      identity = getD m 21 0;
+      quiet = getD m quietPlace 0;
+      identity = getD m identityPlace 0;
     }
 
 pub load-spec : {M : Type 1} → statement M

@@ -6,6 +6,7 @@ use lib.ListN.{set, getD}
 use Rattle.rules.specs.State.{State}
 use Rattle.rules.specs.Changed.{withIdentity}
 use Rattle.writes.proofs.Places.{of-image, identity-below, identity-turned}
+use Rattle.image.specs.Layout.{identityPlace}
 use Rattle.writes.proofs.identity_turned.Statement.{statement}
 use Rattle.writes.proofs.identity_turned.Tie as tie
 
@@ -17,7 +18,7 @@ add-m c =
 returns : tie.Need-returns
 returns c =
     let a = c .before in
-    of-image (λ (m : List ℕ). set m 21 ((getD m 21 0 + 1) % 32)) (λ (s : State). withIdentity ((s .identity + 1) % 32) s) identity-turned (a .args .m .now) (a .pre)
+    of-image (λ (m : List ℕ). set m identityPlace ((getD m identityPlace 0 + 1) % 32)) (λ (s : State). withIdentity ((s .identity + 1) % 32) s) identity-turned (a .args .m .now) (a .pre)
 
 pub identity-turned-spec : {M : Type 1} → statement M
 identity-turned-spec = tie.close (tie.spec (λ c. search needs) add-m (λ c. search needs) returns)

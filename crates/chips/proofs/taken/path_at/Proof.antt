@@ -3,6 +3,7 @@ use borrow.Author.Needs.{needs}
 use lib.Dec.{eqb}
 use lib.ListN.{getD}
 use Rattle.rules.specs.Chips.{pathOf}
+use Rattle.image.specs.Layout.{ackPlace, lastPlace, offsetPlace}
 use Rattle.chips.proofs.Held.{scsi-held, host-held, scsi-counted, host-counted}
 use Rattle.chips.proofs.taken.path_at.Statement.{statement}
 use Rattle.chips.proofs.taken.path_at.Tie as tie
@@ -17,9 +18,9 @@ returns c =
       host = record { bytes = (c .before .before .before .before .before .before .before .before .before .before .before .before .before .host-bytes .ensures ∙ host-held m (s .pre)) i; count = (c .before .before .before .before .before .before .before .before .before .count-of .ensures ∙ host-counted m (s .pre)) i };
       scsi = record { bytes = (c .before .before .before .before .before .before .before .before .before .before .before .scsi-bytes .ensures ∙ scsi-held m (s .pre)) i; count = (c .before .before .before .before .before .before .before .count-of2 .ensures ∙ scsi-counted m (s .pre)) i };
       counter = c .before .before .before .counter-of .ensures i;
-      offset = getD m 17 0;
-      ack = eqb (getD m 18 0) 1;
-      last = getD m 19 0;
+      offset = getD m offsetPlace 0;
+      ack = eqb (getD m ackPlace 0) 1;
+      last = getD m lastPlace 0;
     }
 
 pub path-at-spec : {M : Type 1} → statement M

@@ -2,6 +2,7 @@ use lib.ListN.{getD}
 use borrow.Author.Needs.{needs}
 use Rattle.chips.proofs.taken.registers_at.Statement.{statement}
 use Rattle.chips.proofs.taken.registers_at.Tie as tie
+use Rattle.image.specs.Layout.{brstcntrlPlace, scsidatPlace}
 
 returns : tie.Need-returns
 returns c =
@@ -14,12 +15,12 @@ returns c =
       scsisig = c .before .before .before .before .before .before .before .before .before .before .before .before .before .before .scsisig-of .ensures i;
       scsirate = c .before .before .before .before .before .before .before .before .before .before .before .before .scsirate-of .ensures i;
       scsiid = c .before .before .before .before .before .before .before .before .before .before .scsiid-of .ensures i;
-      scsidat = getD m 6 0;
+      scsidat = getD m scsidatPlace 0;
       simode0 = c .before .before .before .before .before .before .before .simode0-of .ensures i;
       simode1 = c .before .before .before .before .before .simode1-of .ensures i;
       dmacntrl0 = c .before .before .before .dmacntrl0-of .ensures i;
       dmacntrl1 = c .before .dmacntrl1-of .ensures i;
-      brstcntrl = getD m 11 0;
+      brstcntrl = getD m brstcntrlPlace 0;
     }
 
 pub registers-at-spec : {M : Type 1} → statement M

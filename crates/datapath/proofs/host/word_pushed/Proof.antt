@@ -7,24 +7,25 @@ use lib.ListN.{length, getD, set, length-append}
 use Rattle.rules.specs.State.{State}
 use Rattle.image.specs.Image.{imageOf, stateAt}
 use Rattle.rules.specs.Changed.{withHost}
+use Rattle.image.specs.Layout.{hostBytesPlace, hostCountPlace}
 use Rattle.datapath.specs.Ready.{Placed}
 use Rattle.datapath.proofs.Fronts.{counted, pushed, with-host, placed-at}
 use Rattle.datapath.proofs.host.word_pushed.Statement.{statement}
 use Rattle.datapath.proofs.host.word_pushed.Tie as tie
 
 -- after the first byte of two
-module _ {m : List ℕ} {s : State} (p : Placed s) (e : m ≡ imageOf s) (b : ℕ) (h : getD m 24 0 < 127) {a : List ℕ} (f : a ≡ set (set m (68 + getD m 24 0) b) 24 (getD m 24 0 + 1)) where
+module _ {m : List ℕ} {s : State} (p : Placed s) (e : m ≡ imageOf s) (b : ℕ) (h : getD m hostCountPlace 0 < 127) {a : List ℕ} (f : a ≡ set (set m (hostBytesPlace + getD m hostCountPlace 0) b) hostCountPlace (getD m hostCountPlace 0 + 1)) where
   low-first : a ≡ imageOf (withHost (s .transfer .host ++ (b ∷ [])) s)
   low-first = f ∙ pushed p e b (omega arith)
 
   low-placed : Placed (withHost (s .transfer .host ++ (b ∷ [])) s)
   low-placed =
-      let n : getD m 24 0 ≡ length (s .transfer .host) = counted p e in
+      let n : getD m hostCountPlace 0 ≡ length (s .transfer .host) = counted p e in
       with-host s (s .transfer .host ++ (b ∷ [])) p (simp length-append (omega arith))
 
   room-left : getD a 24 0 < 128
   room-left =
-      let n : getD m 24 0 ≡ length (s .transfer .host) = counted p e in
+      let n : getD m hostCountPlace 0 ≡ length (s .transfer .host) = counted p e in
       let k : getD a 24 0 ≡ length (s .transfer .host) + 1 = counted low-placed low-first ∙ length-append (s .transfer .host) (b ∷ []) in
       omega arith
 

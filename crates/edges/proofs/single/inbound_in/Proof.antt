@@ -5,6 +5,7 @@ use mathlib.Core.Bool.{true, false}
 use lib.ListN.{getD}
 use Rattle.rules.specs.Changed.{withTransfer}
 use Rattle.image.specs.Image.{imageOf, stateAt}
+use Rattle.image.specs.Layout.{dataPlace}
 use Rattle.edges.specs.Parts.{storedB}
 use Rattle.edges.specs.Frequent.{raisedB}
 use Rattle.edges.proofs.Placed.{scsi-placed, status-placed}
@@ -33,8 +34,8 @@ returns-2 c =
     let m = start .args .m .now in
     let e = start .pre .0 in
     let io = not-false _ (seen .if1 .left) in
-    let t = withTransfer (storedB true (getD m 14 0) ((stateAt m) .transfer)) (stateAt m) in
-    status-placed (raisedB false false true) t (scsi-placed (getD m 14 0) (stateAt m) (start .pre .1 io) e (stored .byte-stored .ensures)) (c .raised-in .ensures)
+    let t = withTransfer (storedB true (getD m dataPlace 0) ((stateAt m) .transfer)) (stateAt m) in
+    status-placed (raisedB false false true) t (scsi-placed (getD m dataPlace 0) (stateAt m) (start .pre .1 io) e (stored .byte-stored .ensures)) (c .raised-in .ensures)
     ∙ ap imageOf (inbound-as (stateAt m) io (sym (tested .if2 .taken) ∙ late-at m (stateAt m) e io) refl)
 
 returns-3 : tie.Need-returns-3
@@ -46,7 +47,7 @@ returns-3 c =
     let m = start .args .m .now in
     let e = start .pre .0 in
     let io = not-false _ (seen .if1 .left) in
-    scsi-placed (getD m 14 0) (stateAt m) (start .pre .1 io) e (stored .byte-stored .ensures)
+    scsi-placed (getD m dataPlace 0) (stateAt m) (start .pre .1 io) e (stored .byte-stored .ensures)
     ∙ ap imageOf (inbound-as (stateAt m) io (sym (c .if2 .left) ∙ late-at m (stateAt m) e io) refl)
 
 pub inbound-in-spec : {M : Type 1} → statement M

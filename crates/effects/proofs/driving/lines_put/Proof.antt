@@ -4,6 +4,7 @@ use lib.ListN.{set}
 use Rattle.rules.specs.Records.{linesOf, payloadOf}
 use Rattle.rules.specs.Changed.{withLines}
 use Rattle.writes.proofs.Places.{of-image, withLineBytes, lines-image}
+use Rattle.image.specs.Layout.{controlPlace, dataPlace, upperPlace}
 use Rattle.effects.proofs.LineBits.{line-byte, line-upper, line-control}
 use Rattle.effects.proofs.driving.lines_put.Statement.{statement}
 use Rattle.effects.proofs.driving.lines_put.Tie as tie
@@ -12,7 +13,7 @@ returns : tie.Need-returns
 returns c =
     let a = c .args in
     let l = linesOf (payloadOf (a .high) (a .middle) (a .low)) in
-    (λ i. set (set (set (a .m .now) 14 (line-byte (a .high) (a .middle) (a .low) (search needs) (search needs) i)) 15 (line-upper (a .high) (a .middle) (a .low) (search needs) (search needs) i)) 16 (line-control (a .high) (a .middle) (a .low) (search needs) (search needs) i))
+    (λ i. set (set (set (a .m .now) dataPlace (line-byte (a .high) (a .middle) (a .low) (search needs) (search needs) i)) upperPlace (line-upper (a .high) (a .middle) (a .low) (search needs) (search needs) i)) controlPlace (line-control (a .high) (a .middle) (a .low) (search needs) (search needs) i))
     ∙ of-image (withLineBytes l) (withLines l) (lines-image l) (a .m .now) (c .pre)
 
 pub lines-put-spec : {M : Type 1} → statement M

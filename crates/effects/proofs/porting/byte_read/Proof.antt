@@ -10,6 +10,7 @@ use Rattle.image.specs.Image.{imageOf, stateAt}
 use Rattle.reads.proofs.Held.{at-first}
 use Rattle.effects.proofs.Coding.{byte-read-tests, is-shut, is-short, is-open}
 use Rattle.effects.proofs.ReadLaws.{read-refused, unheld-image, read-acts}
+use Rattle.image.specs.Layout.{hostCountPlace}
 use Rattle.effects.proofs.ReadParts.{port-left, port-value, unaccessed, unacked}
 use Rattle.effects.proofs.porting.byte_read.Statement.{statement}
 use Rattle.effects.proofs.porting.byte_read.Tie as tie
@@ -29,7 +30,7 @@ returns-2 c =
     let k = l .before in
     let o = k .before .before in
     let s = stateAt (o .args .m .now) in
-    read-refused (o .pre) 0x16 NoBytes (is-short (byte-read-tests (o .pre)) (k .shut-to .ensures) (l .if1 .left) refl (lt-ltb (getD (o .args .m .now) 24 0) 1 (t .if2 .taken))) refl (c .refused-as2 .ensures)
+    read-refused (o .pre) 0x16 NoBytes (is-short (byte-read-tests (o .pre)) (k .shut-to .ensures) (l .if1 .left) refl (lt-ltb (getD (o .args .m .now) hostCountPlace 0) 1 (t .if2 .taken))) refl (c .refused-as2 .ensures)
 
 status-kept-in-requires : tie.Need-status-kept-in-requires
 status-kept-in-requires c κs =
@@ -39,7 +40,7 @@ status-kept-in-requires c κs =
     let k = l .before in
     let o = k .before .before in
     let s = stateAt (o .args .m .now) in
-    unheld-image (o .pre) 0x16 (omega arith) (is-open (byte-read-tests (o .pre)) (k .shut-to .ensures) (l .if1 .left) refl (le-ltb (getD (o .args .m .now) 24 0) 1 (t .if2 .left)))
+    unheld-image (o .pre) 0x16 (omega arith) (is-open (byte-read-tests (o .pre)) (k .shut-to .ensures) (l .if1 .left) refl (le-ltb (getD (o .args .m .now) hostCountPlace 0) 1 (t .if2 .left)))
     (x .host-popped .ensures ∙ ap imageOf (port-left s))
 
 cast-done-with : tie.Need-cast-done-with
@@ -57,7 +58,7 @@ returns-3 c =
     let o = k .before .before in
     let m = o .args .m .now in
     let s = stateAt m in
-    read-acts (o .pre) 0x16 (omega arith) (is-open (byte-read-tests (o .pre)) (k .shut-to .ensures) (l .if1 .left) refl (le-ltb (getD (o .args .m .now) 24 0) 1 (t .if2 .left)))
+    read-acts (o .pre) 0x16 (omega arith) (is-open (byte-read-tests (o .pre)) (k .shut-to .ensures) (l .if1 .left) refl (le-ltb (getD (o .args .m .now) hostCountPlace 0) 1 (t .if2 .left)))
     (x .host-popped .ensures ∙ ap imageOf (port-left s)) (unaccessed s 0x16 refl) (unacked s 0x16 refl)
     (c .before .status-kept-in .ensures) (at-first m (o .pre) ∙ port-value s) (c .done-with .ensures)
 

@@ -10,6 +10,7 @@ use Rattle.rules.specs.Events.{ticksOf}
 use Rattle.rules.specs.declared.codes.Code.the-variants.{Shut, NoRoom}
 use Rattle.rules.specs.declared.records.Event.the-variants.{Write, WordRead}
 use Rattle.image.specs.Image.{stateAt}
+use Rattle.image.specs.Layout.{hostCountPlace}
 use Rattle.effects.proofs.Coding.{byte-write-tests, is-shut, is-full, is-open}
 use Rattle.effects.proofs.Effects.{port-leaves}
 use Rattle.effects.proofs.Endings.{acts-refused}
@@ -34,7 +35,7 @@ returns-2 c =
     let a = t .before .before in
     let v = a .args .value in
     let s = stateAt (a .args .m .now) in
-    acts-refused s (Write 0x16 v) NoRoom (is-full (byte-write-tests (a .pre) v) (t .shut-to .ensures) (l .if1 .left) (lt-ltb 128 (getD (a .args .m .now) 24 0 + 1) (omega (arith, c .before .if2 .taken)))) refl (a .pre .packed) refl refl (c .refused-as2 .ensures)
+    acts-refused s (Write 0x16 v) NoRoom (is-full (byte-write-tests (a .pre) v) (t .shut-to .ensures) (l .if1 .left) (lt-ltb 128 (getD (a .args .m .now) hostCountPlace 0 + 1) (omega (arith, c .before .if2 .taken)))) refl (a .pre .packed) refl refl (c .refused-as2 .ensures)
 
 host-pushed-requires : tie.Need-host-pushed-requires
 host-pushed-requires c κs = (c .before .before .before .before .before .before .pre, omega (arith, c .before .if2 .left))
@@ -47,7 +48,7 @@ status-kept-in-requires c κs =
     let a = t .before .before in
     let v = a .args .value in
     let s = stateAt (a .args .m .now) in
-    let d = is-open (byte-write-tests (a .pre) v) (t .shut-to .ensures) (l .if1 .left) (le-ltb 128 (getD (a .args .m .now) 24 0 + 1) (omega (arith, f .if2 .left))) refl in
+    let d = is-open (byte-write-tests (a .pre) v) (t .shut-to .ensures) (l .if1 .left) (le-ltb 128 (getD (a .args .m .now) hostCountPlace 0 + 1) (omega (arith, f .if2 .left))) refl in
     there (carried (port-leaves (a .pre) (a .fits .value .fits) d) (start (a .pre)) (c .before .host-pushed .ensures))
 
 returns-3 : tie.Need-returns-3
@@ -59,7 +60,7 @@ returns-3 c =
     let a = t .before .before in
     let v = a .args .value in
     let s = stateAt (a .args .m .now) in
-    let d = is-open (byte-write-tests (a .pre) v) (t .shut-to .ensures) (l .if1 .left) (le-ltb 128 (getD (a .args .m .now) 24 0 + 1) (omega (arith, f .if2 .left))) refl in
+    let d = is-open (byte-write-tests (a .pre) v) (t .shut-to .ensures) (l .if1 .left) (le-ltb 128 (getD (a .args .m .now) hostCountPlace 0 + 1) (omega (arith, f .if2 .left))) refl in
     let o = port-leaves (a .pre) (a .fits .value .fits) d in
     acts o (flagged (carried o (start (a .pre)) (x .host-pushed .ensures)) false false WordRead (c .before .status-kept-in .ensures)) (c .done-with .ensures)
 

@@ -10,6 +10,7 @@ use Rattle.rules.specs.Reads.{valueRead}
 use Rattle.rules.specs.declared.codes.Code.the-variants.{Shut, NoBytes}
 use Rattle.rules.specs.declared.records.Event.the-variants.{WordRead}
 use Rattle.image.specs.Image.{stateAt}
+use Rattle.image.specs.Layout.{hostCountPlace}
 use Rattle.effects.proofs.Coding.{word-read-tests, is-shut, is-short, is-open}
 use Rattle.effects.proofs.Driven.{leaves-off}
 use Rattle.effects.proofs.Endings.{acts-refused}
@@ -34,7 +35,7 @@ returns-2 c =
     let k = l .before in
     let o = k .before .before in
     let s = stateAt (o .args .m .now) in
-    acts-refused s WordRead NoBytes (is-short (word-read-tests (o .pre)) (k .shut-to .ensures) (l .if1 .left) refl (lt-ltb (getD (o .args .m .now) 24 0) 2 (t .if2 .taken))) refl (o .pre .packed) refl refl (c .refused-as2 .ensures)
+    acts-refused s WordRead NoBytes (is-short (word-read-tests (o .pre)) (k .shut-to .ensures) (l .if1 .left) refl (lt-ltb (getD (o .args .m .now) hostCountPlace 0) 2 (t .if2 .taken))) refl (o .pre .packed) refl refl (c .refused-as2 .ensures)
 
 host-popped-requires : tie.Need-host-popped-requires
 host-popped-requires c κs =
@@ -49,7 +50,7 @@ status-kept-in-requires c κs =
     let k = l .before in
     let o = k .before .before in
     let s = stateAt (o .args .m .now) in
-    let d = is-open (word-read-tests (o .pre)) (k .shut-to .ensures) (l .if1 .left) refl (le-ltb (getD (o .args .m .now) 24 0) 2 (t .if2 .left)) in
+    let d = is-open (word-read-tests (o .pre)) (k .shut-to .ensures) (l .if1 .left) refl (le-ltb (getD (o .args .m .now) hostCountPlace 0) 2 (t .if2 .left)) in
     there (carried (leaves-off (o .pre) d) (start (o .pre)) (x .host-popped .ensures))
 
 returns-3 : tie.Need-returns-3
@@ -62,7 +63,7 @@ returns-3 c =
     let k = l .before in
     let o = k .before .before in
     let s = stateAt (o .args .m .now) in
-    let d = is-open (word-read-tests (o .pre)) (k .shut-to .ensures) (l .if1 .left) refl (le-ltb (getD (o .args .m .now) 24 0) 2 (t .if2 .left)) in
+    let d = is-open (word-read-tests (o .pre)) (k .shut-to .ensures) (l .if1 .left) refl (le-ltb (getD (o .args .m .now) hostCountPlace 0) 2 (t .if2 .left)) in
     let w = leaves-off (o .pre) d in
     acts-with w (v .oldest-word .ensures) refl (flagged (carried w (start (o .pre)) (x .host-popped .ensures)) false false WordRead (c .before .status-kept-in .ensures)) (c .done-with .ensures)
 

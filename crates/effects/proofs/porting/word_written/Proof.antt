@@ -11,6 +11,7 @@ use Rattle.rules.specs.Reads.{valueRead}
 use Rattle.rules.specs.declared.codes.Code.the-variants.{Shut, NoRoom}
 use Rattle.rules.specs.declared.records.Event.the-variants.{WordWrite, WordRead}
 use Rattle.image.specs.Image.{stateAt}
+use Rattle.image.specs.Layout.{hostCountPlace}
 use Rattle.effects.proofs.Coding.{word-write-tests, is-shut, is-full, is-open}
 use Rattle.effects.proofs.Driven.{leaves-word}
 use Rattle.effects.proofs.Endings.{acts-refused}
@@ -35,7 +36,7 @@ returns-2 c =
     let a = t .before .before in
     let w = a .args .word in
     let s = stateAt (a .args .m .now) in
-    acts-refused s (WordWrite w) NoRoom (is-full (word-write-tests (a .pre) w) (t .shut-to .ensures) (l .if1 .left) (lt-ltb 128 (getD (a .args .m .now) 24 0 + 2) (omega (arith, c .before .if2 .taken)))) refl (a .pre .packed) refl refl (c .refused-as2 .ensures)
+    acts-refused s (WordWrite w) NoRoom (is-full (word-write-tests (a .pre) w) (t .shut-to .ensures) (l .if1 .left) (lt-ltb 128 (getD (a .args .m .now) hostCountPlace 0 + 2) (omega (arith, c .before .if2 .taken)))) refl (a .pre .packed) refl refl (c .refused-as2 .ensures)
 
 word-pushed-requires : tie.Need-word-pushed-requires
 word-pushed-requires c κs = (c .before .before .before .before .before .before .pre, omega (arith, c .before .if2 .left))
@@ -48,7 +49,7 @@ status-kept-in-requires c κs =
     let a = t .before .before in
     let w = a .args .word in
     let s = stateAt (a .args .m .now) in
-    let d = is-open (word-write-tests (a .pre) w) (t .shut-to .ensures) (l .if1 .left) (le-ltb 128 (getD (a .args .m .now) 24 0 + 2) (omega (arith, f .if2 .left))) refl in
+    let d = is-open (word-write-tests (a .pre) w) (t .shut-to .ensures) (l .if1 .left) (le-ltb 128 (getD (a .args .m .now) hostCountPlace 0 + 2) (omega (arith, f .if2 .left))) refl in
     there (carried (leaves-word (a .pre) (a .fits .word .fits) d) (start (a .pre)) (c .before .word-pushed .ensures))
 
 returns-3 : tie.Need-returns-3
@@ -61,7 +62,7 @@ returns-3 c =
     let a = t .before .before in
     let w = a .args .word in
     let s = stateAt (a .args .m .now) in
-    let d = is-open (word-write-tests (a .pre) w) (t .shut-to .ensures) (l .if1 .left) (le-ltb 128 (getD (a .args .m .now) 24 0 + 2) (omega (arith, f .if2 .left))) refl in
+    let d = is-open (word-write-tests (a .pre) w) (t .shut-to .ensures) (l .if1 .left) (le-ltb 128 (getD (a .args .m .now) hostCountPlace 0 + 2) (omega (arith, f .if2 .left))) refl in
     let o = leaves-word (a .pre) (a .fits .word .fits) d in
     acts-with o refl refl (flagged (carried o (start (a .pre)) (x .word-pushed .ensures)) false false WordRead (c .before .status-kept-in .ensures)) (c .done-with .ensures)
 

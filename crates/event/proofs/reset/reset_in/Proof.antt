@@ -3,10 +3,11 @@ use lib.ListN.{replicate}
 use Rattle.rules.specs.Numbers.{padded}
 use Rattle.rules.specs.State.{powerReset}
 use Rattle.image.specs.Image.{imageOf}
+use Rattle.image.specs.Layout.{imageSize}
 use Rattle.event.proofs.reset.reset_in.Statement.{statement}
 use Rattle.event.proofs.reset.reset_in.Tie as tie
 
-all-zero : replicate 196 0 ≡ imageOf powerReset
+all-zero : replicate imageSize 0 ≡ imageOf powerReset
 unfolding imageOf powerReset padded
 all-zero = refl
 

@@ -10,6 +10,7 @@ use Rattle.rules.specs.Records.{decode}
 use Rattle.rules.specs.Answers.{Stepped}
 use Rattle.rules.proofs.Ranges.{decode-fits}
 use Rattle.image.specs.Image.{stateAt}
+use Rattle.image.specs.Layout.{simode0Place, simode1Place}
 use Rattle.edges.specs.Since.{rstOf, reqOf, mismatchedOf}
 use Rattle.edges.proofs.Still.{rst-of, req-of, mismatched-of}
 use Rattle.event.specs.Given.{endedAs}
@@ -26,7 +27,7 @@ returns c =
     rw (c .ended .ensures) (starts.opens-leaves (stateAt (start .args .m .now)) (a .opened .result) (decode (start .args .bytes .now)) (a .opened .ensures) (branch .if1 .taken))
 
 -- what was seen and enabled before the event
-onward : (c : tie.Else1) → starts.Onward (step (stateAt (c .before .before .before .before .before .before .before .before .args .m .now)) (c .before .before .before .before .before .before .before .before .args .bytes .now)) (c .before .opened .last .0) (c .before .before .before .before .before .seen-in .result) (getD (c .before .before .before .before .before .before .before .before .args .m .now) 7 0) (getD (c .before .before .before .before .before .before .before .before .args .m .now) 8 0) (c .before .opened .result .ticks) (c .before .opened .result .value)
+onward : (c : tie.Else1) → starts.Onward (step (stateAt (c .before .before .before .before .before .before .before .before .args .m .now)) (c .before .before .before .before .before .before .before .before .args .bytes .now)) (c .before .opened .last .0) (c .before .before .before .before .before .seen-in .result) (getD (c .before .before .before .before .before .before .before .before .args .m .now) simode0Place 0) (getD (c .before .before .before .before .before .before .before .before .args .m .now) simode1Place 0) (c .before .opened .result .ticks) (c .before .opened .result .value)
 unfolding step stateAt
 onward c =
     let a = c .before in

@@ -8,6 +8,7 @@ use Rattle.rules.specs.Seen.{normal, path}
 use Rattle.rules.specs.StepD.{fifoConflict}
 use Rattle.rules.specs.declared.registers.Registers.{Registers}
 use Rattle.image.specs.Image.{registersAt}
+use Rattle.image.specs.Layout.{sxfrctl0Place}
 use Rattle.interrupts.proofs.status.fifo_conflict.Statement.{statement}
 use Rattle.interrupts.proofs.status.fifo_conflict.Tie as tie
 
@@ -21,13 +22,13 @@ returns c =
     let on = c .before in
     let tested = on .before .before in
     let m = tested .before .before .args .m .now in
-    rw (tested .if1 .taken) at (by-tests (registersAt m) (tested .before .normal .ensures) (eq-eqb (field (getD m 1 0) 7 1) 1 (on .if2 .taken)) (c .path .ensures))
+    rw (tested .if1 .taken) at (by-tests (registersAt m) (tested .before .normal .ensures) (eq-eqb (field (getD m sxfrctl0Place 0) 7 1) 1 (on .if2 .taken)) (c .path .ensures))
 
 returns-2 : tie.Need-returns-2
 returns-2 c =
     let tested = c .before .before in
     let m = tested .before .before .args .m .now in
-    rw (tested .if1 .taken) at (by-tests (registersAt m) (tested .before .normal .ensures) (ne-eqb (field (getD m 1 0) 7 1) 1 (c .if2 .left)) refl)
+    rw (tested .if1 .taken) at (by-tests (registersAt m) (tested .before .normal .ensures) (ne-eqb (field (getD m sxfrctl0Place 0) 7 1) 1 (c .if2 .left)) refl)
 
 returns-3 : tie.Need-returns-3
 returns-3 c = rw (c .if1 .left) at (by-tests (registersAt (c .before .before .args .m .now)) (c .before .normal .ensures) refl refl)

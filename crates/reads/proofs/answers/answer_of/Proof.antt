@@ -10,6 +10,7 @@ use Rattle.rules.specs.declared.registers.Registers.{Registers}
 use Rattle.rules.specs.declared.records.Lines.{Lines}
 use Rattle.rules.specs.Answers.{answerBytes}
 use Rattle.image.specs.Image.{stateAt, registersAt, linesAt, transferAt}
+use Rattle.image.specs.Layout.{offsetPlace, scsiseqPlace}
 use Rattle.reads.specs.Answering.{answerWith}
 use Rattle.reads.proofs.Held.{at-scsi, at-host}
 use Rattle.reads.proofs.answers.answer_of.Statement.{statement}
@@ -46,12 +47,12 @@ returns c =
       acks = s .args .acks;
       moves = s .args .moves;
       driving = drives i;
-      rst = bit (getD m 0 0) 0;
+      rst = bit (getD m scsiseqPlace 0) 0;
       parity = parity-by (registersAt m) (linesAt m) (transferAt m) drives driven (parity .parity-of .ensures) i;
       value = s .args .value;
       control = control .control-driven .ensures i;
       driven = driven i;
-      offset = getD m 17 0;
+      offset = getD m offsetPlace 0;
       scsi = at-scsi m (s .pre) i;
       host = at-host m (s .pre) i;
       sent = s .args .sent;

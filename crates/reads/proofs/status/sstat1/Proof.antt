@@ -5,13 +5,14 @@ use lib.ListN.{getD}
 use Rattle.rules.specs.Numbers.{bit, byteOf}
 use Rattle.rules.specs.Reads.{sstat1}
 use Rattle.image.specs.Image.{stateAt}
+use Rattle.image.specs.Layout.{statusPlace}
 use Rattle.reads.proofs.status.sstat1.Statement.{statement}
 use Rattle.reads.proofs.status.sstat1.Tie as tie
 
 returns : tie.Need-returns
 unfolding sstat1 stateAt
 returns c =
-    let v = getD (c .before .before .before .before .before .before .before .args .m .now) 12 0 in
+    let v = getD (c .before .before .before .before .before .before .before .args .m .now) statusPlace 0 in
     c .byte-of .ensures
     ∙ (λ i. byteOf false false (bit v 6) (c .before .before .before .before .before .before .phasemis .ensures i) (bit v 5) (bit v 4) (bit v 3) (bit v 2))
 

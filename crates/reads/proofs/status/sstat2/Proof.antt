@@ -7,6 +7,7 @@ use lib.ListN.{getD}
 use Rattle.rules.specs.Numbers.{byteOf}
 use Rattle.rules.specs.Reads.{sstat2}
 use Rattle.image.specs.Image.{stateAt}
+use Rattle.image.specs.Layout.{offsetPlace, scsiCountPlace}
 use Rattle.reads.proofs.Held.{at-scsi}
 use Rattle.reads.proofs.status.sstat2.Statement.{statement}
 use Rattle.reads.proofs.status.sstat2.Tie as tie
@@ -15,8 +16,8 @@ returns : tie.Need-returns
 unfolding sstat2 stateAt
 returns c =
     let m = c .before .before .before .args .m .now in
-    ap (λ (b : ℕ). b + getD m 23 0 % 8) (c .byte-of .ensures)
-    ∙ ap (λ (n : ℕ). byteOf false false (not (eqb (getD m 17 0) 0)) (eqb n 0) (eqb n 8) false false false + n % 8) (at-scsi m (c .before .before .before .pre))
+    ap (λ (b : ℕ). b + getD m scsiCountPlace 0 % 8) (c .byte-of .ensures)
+    ∙ ap (λ (n : ℕ). byteOf false false (not (eqb (getD m offsetPlace 0) 0)) (eqb n 0) (eqb n 8) false false false + n % 8) (at-scsi m (c .before .before .before .pre))
 
 pub sstat2-spec : {M : Type 1} → statement M
 sstat2-spec = tie.close (tie.spec (λ c. search needs) (λ c. search needs) (λ c κs. search needs) (λ c. search needs) returns)

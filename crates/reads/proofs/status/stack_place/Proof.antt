@@ -6,6 +6,7 @@ use lib.ListN.{getD}
 use Rattle.rules.specs.Numbers.{bit}
 use Rattle.rules.specs.Stack.{stackPlace}
 use Rattle.image.specs.Image.{stateAt}
+use Rattle.image.specs.Layout.{dmacntrl1Place, pointerPlace}
 use Rattle.reads.proofs.status.stack_place.Statement.{statement}
 use Rattle.reads.proofs.status.stack_place.Tie as tie
 
@@ -20,13 +21,13 @@ returns : tie.Need-returns
 unfolding stackPlace stateAt
 returns c =
     let m = c .before .before .before .args .m .now in
-    wide (bit (getD m 10 0) 6) (getD m 22 0) (c .if1 .taken)
+    wide (bit (getD m dmacntrl1Place 0) 6) (getD m pointerPlace 0) (c .if1 .taken)
 
 returns-2 : tie.Need-returns-2
 unfolding stackPlace stateAt
 returns-2 c =
     let m = c .before .before .before .args .m .now in
-    narrow (bit (getD m 10 0) 6) (getD m 22 0) (c .if1 .left)
+    narrow (bit (getD m dmacntrl1Place 0) 6) (getD m pointerPlace 0) (c .if1 .left)
 
 pub stack-place-spec : {M : Type 1} → statement M
 stack-place-spec = tie.close (tie.spec (λ c. search needs) (λ c. search needs) returns returns-2)

@@ -5,6 +5,7 @@ use lib.ListN.{length, drop, length-drop}
 use denote.Ref.{now}
 use borrow.Author.Needs.{needs}
 use Rattle.image.specs.Image.{stateAt}
+use Rattle.image.specs.Layout.{hostBytesPlace, imageSize, scsiBytesPlace}
 use Rattle.settling.proofs.Kept.{long}
 use Rattle.settling.proofs.Carries.{scsi-held, host-held, pasted-long, carried-in}
 use Rattle.settling.proofs.moves.carried_in.Statement.{statement}
@@ -34,13 +35,13 @@ copied-requires c κs =
     )
 
 -- after the block is copied
-after-copy : (c : tie.After-copied) → length (c .copied .last .0) ≡ 196
+after-copy : (c : tie.After-copied) → length (c .copied .last .0) ≡ imageSize
 after-copy c =
     let a = c .before .before .before .before .before .before in
     let i = a .pre .0 in
     let l = long (now (a .args .m)) i in
     let h = counted-host (c .before .before) in
-    pasted-long (now (a .args .m)) (c .copied .last .0) (68 + c .before .before .wide2 .result) (drop 28 (now (a .args .m))) (a .args .k) (c .copied .ensures) l (omega (arith, a .pre .1 .1)) (simp length-drop (omega (arith, i .range .transfer .scsi, a .pre .1 .0)))
+    pasted-long (now (a .args .m)) (c .copied .last .0) (hostBytesPlace + c .before .before .wide2 .result) (drop scsiBytesPlace (now (a .args .m))) (a .args .k) (c .copied .ensures) l (omega (arith, a .pre .1 .1)) (simp length-drop (omega (arith, i .range .transfer .scsi, a .pre .1 .0)))
 
 moved-down-requires : tie.Need-moved-down-requires
 moved-down-requires c κs =

@@ -5,6 +5,7 @@ use lib.ListN.{set}
 use denote.Ref.{now}
 use borrow.Author.Needs.{needs}
 use Rattle.rules.specs.Counter.{counterByte}
+use Rattle.image.specs.Layout.{counterHighPlace, counterLowPlace, counterMiddlePlace}
 use Rattle.settling.proofs.shakes.counter_stored.Statement.{statement}
 use Rattle.settling.proofs.shakes.counter_stored.Tie as tie
 
@@ -15,4 +16,4 @@ pub counter-stored-spec : {M : Type 1} → statement M
 counter-stored-spec =
     tie.close
     (tie.spec (λ c. search needs) (λ c. search needs) (λ c. search needs) (λ c. search needs) (λ c. search needs) (λ c. search needs)
-    (λ c. ap (λ (x : ℕ). set (set (set (now (c .args .m)) 25 x) 26 (c .args .n / 256 % 256)) 27 (c .args .n / 65536 % 256)) (lowest (c .args .n))))
+    (λ c. ap (λ (x : ℕ). set (set (set (now (c .args .m)) counterLowPlace x) counterMiddlePlace (c .args .n / 256 % 256)) counterHighPlace (c .args .n / 65536 % 256)) (lowest (c .args .n))))
