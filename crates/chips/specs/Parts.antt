@@ -36,19 +36,19 @@ registersBytes r =
     ∷ r .brstcntrl
     ∷ []
 
--- from 12 on
+-- from the status on
 abbrev pub flagsBytes : Status → Latches → Lines → List ℕ
 flagsBytes t k l = statusByte t ∷ latchesByte k ∷ l .byte ∷ upperByte l ∷ controlByte l ∷ []
 
--- from 17 on
+-- from the offset on
 abbrev pub numbersBytes : ℕ → Bool → ℕ → ℕ → ℕ → ℕ → List ℕ
 numbersBytes offset ack last quiet identity pointer =
     offset ∷ one ack ∷ last ∷ quiet ∷ identity ∷ pointer ∷ []
 
--- from 23 on
+-- from the counts on
 abbrev pub countsBytes : ℕ → ℕ → ℕ → List ℕ
 countsBytes scsi host counter =
-    scsi ∷ host ∷ counterByte 0 counter ∷ counterByte 1 counter ∷ counterByte 2 counter ∷ []
+    scsi ∷ host ∷ counterByte 2 counter ∷ counterByte 1 counter ∷ counterByte 0 counter ∷ []
 
 -- n bytes stand from a place on in an array of imageSize, the others are as they were
 pub record Placed (before : List ℕ) (at : ℕ) (s : List ℕ) (n : ℕ) (after : List ℕ) : Type 0 where

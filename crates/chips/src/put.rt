@@ -112,9 +112,9 @@ pub fn put_counts(scsi: usize, host: usize, counter: u32, m: &mut Image)
 {
     m[SCSI_COUNT] = scsi as u8;
     m[HOST_COUNT] = host as u8;
-    m[COUNTER_LOW] = ((counter >> 0) % 256) as u8;
-    m[COUNTER_MIDDLE] = ((counter >> 8) % 256) as u8;
     m[COUNTER_HIGH] = ((counter >> 16) % 256) as u8;
+    m[COUNTER_MIDDLE] = ((counter >> 8) % 256) as u8;
+    m[COUNTER_LOW] = ((counter >> 0) % 256) as u8;
 }
 
 pub fn put_scsi(b: [u8; 8], m: &mut [u8])

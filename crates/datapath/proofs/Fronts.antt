@@ -115,8 +115,8 @@ host-popped s k p h =
     ∙ b
     ∙ ap (λ (y : List ℕ). x ++ y) (popped-places l k h (p .host))
     in
-    ap (λ (y : List ℕ). set (paste (paste y 68 (drop (hostBytesPlace + k) y) r) (hostBytesPlace + r) (replicate k 0) k) 24 r) (image-split s)
-    ∙ ap (λ (y : List ℕ). set y 24 r) g
+    ap (λ (y : List ℕ). set (paste (paste y 68 (drop (hostBytesPlace + k) y) r) (hostBytesPlace + r) (replicate k 0) k) hostCountPlace r) (image-split s)
+    ∙ ap (λ (y : List ℕ). set y hostCountPlace r) g
     ∙ ap (λ (j : ℕ). set (x ++ padded 128 (drop k l)) 24 j) (sym (length-drop k l))
     ∙ host-image s (drop k l)
 

@@ -126,49 +126,49 @@ scsi-zeroed s p =
     let n : ℕ = length l in
     let r : List ℕ = s .stack .bytes ++ padded 128 (s .transfer .host) in
     let a : paste (headOf s ++ (padded 8 l ++ r)) 28 (replicate n 0) n ≡ headOf s ++ paste (padded 8 l ++ r) 0 (replicate n 0) n = paste-at (headOf s) (padded 8 l ++ r) (replicate n 0) 28 0 n refl in
-    ap (λ (y : List ℕ). set (paste y 28 (replicate n 0) n) 23 0) (behind-head s)
-    ∙ ap (λ (y : List ℕ). set y 23 0) (a ∙ ap (λ (y : List ℕ). headOf s ++ y) (places-zeroed l r (p .scsi)))
+    ap (λ (y : List ℕ). set (paste y 28 (replicate n 0) n) scsiCountPlace 0) (behind-head s)
+    ∙ ap (λ (y : List ℕ). set y scsiCountPlace 0) (a ∙ ap (λ (y : List ℕ). headOf s ++ y) (places-zeroed l r (p .scsi)))
     ∙ no-count s (padded 8 [] ++ r)
     ∙ sym (behind-head (withScsi [] s))
 
 -- an array of which it is known which state it is the image of
 module _ {m : List ℕ} (s : State) (e : m ≡ imageOf s) where
   pub zeroed : set (set (set m counterLowPlace 0) counterMiddlePlace 0) counterHighPlace 0 ≡ imageOf (withCounter 0 s)
-  zeroed = ap (λ (y : List ℕ). set (set (set y 25 0) 26 0) 27 0) e ∙ stored s 0
+  zeroed = ap (λ (y : List ℕ). set (set (set y counterLowPlace 0) counterMiddlePlace 0) counterHighPlace 0) e ∙ stored s 0
 
   pub low : (v : ℕ) → v < 256 → set m counterLowPlace v ≡ imageOf (counterWritten 0 v s)
-  low v h = ap (λ (y : List ℕ). set y 25 v) e ∙ low-stored s v h
+  low v h = ap (λ (y : List ℕ). set y counterLowPlace v) e ∙ low-stored s v h
 
   pub middle : (v : ℕ) → v < 256 → set m counterMiddlePlace v ≡ imageOf (counterWritten 1 v s)
-  middle v h = ap (λ (y : List ℕ). set y 26 v) e ∙ middle-stored s v h
+  middle v h = ap (λ (y : List ℕ). set y counterMiddlePlace v) e ∙ middle-stored s v h
 
   pub high : (v : ℕ) → v < 256 → set m counterHighPlace v ≡ imageOf (counterWritten 2 v s)
-  high v h = ap (λ (y : List ℕ). set y 27 v) e ∙ high-stored s v h
+  high v h = ap (λ (y : List ℕ). set y counterHighPlace v) e ∙ high-stored s v h
 
   pub on : set m ackPlace 1 ≡ imageOf (withAck true s)
-  on = ap (λ (y : List ℕ). set y 18 1) e ∙ ack-stored s
+  on = ap (λ (y : List ℕ). set y ackPlace 1) e ∙ ack-stored s
 
   pub no-offset : set m offsetPlace 0 ≡ imageOf (withOffset 0 s)
-  no-offset = ap (λ (y : List ℕ). set y 17 0) e ∙ offset-stored s 0
+  no-offset = ap (λ (y : List ℕ). set y offsetPlace 0) e ∙ offset-stored s 0
 
   module _ (p : Placed s) where
     pub number : getD m counterLowPlace 0 + 256 * getD m counterMiddlePlace 0 + 65536 * getD m counterHighPlace 0 ≡ s .transfer .counter
-    number = ap (λ (y : List ℕ). getD y 25 0 + 256 * getD y 26 0 + 65536 * getD y 27 0) e ∙ counter-bytes s ∙ bytes-joined (s .transfer .counter) (p .counter)
+    number = ap (λ (y : List ℕ). getD y counterLowPlace 0 + 256 * getD y counterMiddlePlace 0 + 65536 * getD y counterHighPlace 0) e ∙ counter-bytes s ∙ bytes-joined (s .transfer .counter) (p .counter)
 
     pub more : {k n a b c : ℕ} → k ≡ getD m counterLowPlace 0 + 256 * getD m counterMiddlePlace 0 + 65536 * getD m counterHighPlace 0 → n ≡ counted k → a ≡ counterByte 0 n → b ≡ counterByte 1 n → c ≡ counterByte 2 n → set (set (set m counterLowPlace a) counterMiddlePlace b) counterHighPlace c ≡ imageOf (counterCounted s)
     more {k} {n} {a} {b} {c} f g i j l =
         let q : n ≡ counted (s .transfer .counter) = g ∙ ap counted (f ∙ number) in
-        ap (λ (y : List ℕ). set (set (set y 25 a) 26 b) 27 c) e ∙ bytes-as s n i j l ∙ ap (λ (x : ℕ). imageOf (withCounter x s)) q
+        ap (λ (y : List ℕ). set (set (set y counterLowPlace a) counterMiddlePlace b) counterHighPlace c) e ∙ bytes-as s n i j l ∙ ap (λ (x : ℕ). imageOf (withCounter x s)) q
 
     pub scsi-counted : getD m scsiCountPlace 0 ≡ length (s .transfer .scsi)
-    scsi-counted = ap (λ (y : List ℕ). getD y 23 0) e ∙ scsi-count s
+    scsi-counted = ap (λ (y : List ℕ). getD y scsiCountPlace 0) e ∙ scsi-count s
 
     pub scsi-fits : getD m scsiCountPlace 0 ≤ 8
     scsi-fits = omega (arith, scsi-counted, p .scsi)
 
     pub no-scsi : {a : List ℕ} → a ≡ paste m 28 (replicate (getD m scsiCountPlace 0) 0) (getD m scsiCountPlace 0) → set a 23 0 ≡ imageOf (withScsi [] s)
     no-scsi f =
-        ap (λ (y : List ℕ). set y 23 0) f
+        ap (λ (y : List ℕ). set y scsiCountPlace 0) f
         ∙ ap (λ (j : ℕ). set (paste m 28 (replicate j 0) j) scsiCountPlace 0) scsi-counted
-        ∙ ap (λ (y : List ℕ). set (paste y 28 (replicate (length (s .transfer .scsi)) 0) (length (s .transfer .scsi))) 23 0) e
+        ∙ ap (λ (y : List ℕ). set (paste y 28 (replicate (length (s .transfer .scsi)) 0) (length (s .transfer .scsi))) scsiCountPlace 0) e
         ∙ scsi-zeroed s p

@@ -4,7 +4,7 @@ use mathlib.Core.Bool.{Bool}
 use mathlib.Core.List.{List}
 use lib.ListN.{getD, set, replicate}
 use Rattle.rules.specs.Seen.{rstSeen, reqSeen, mismatched}
-use Rattle.image.specs.Image.{registersAt, linesAt}
+use Rattle.image.specs.Image.{registersAt, linesAt, stateAt}
 use Rattle.image.specs.Layout.{controlPlace, imageSize, scsiseqPlace, scsisigPlace, upperPlace}
 use Rattle.edges.specs.declared.last.Seen.{Seen}
 

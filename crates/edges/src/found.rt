@@ -6,7 +6,7 @@ ghost use lib.Dec.{eqb, leb, ltb};
 ghost use lib.ListN.{getD};
 ghost use Rattle.rules.specs.Seen.{rstSeen, selSeen, bsySeen, connected, matched, path, synchronous, limit};
 ghost use Rattle.edges.specs.Parts.{registersB};
-ghost use Rattle.image.specs.Image.{registersAt, linesAt};
+ghost use Rattle.image.specs.Image.{registersAt, linesAt, stateAt};
 ghost use Rattle.edges.specs.Inbound.{inboundEven};
 ghost use Rattle.image.specs.Layout.{offsetPlace, quietPlace, scsiCountPlace};
 use image::bus::connected;

@@ -4,7 +4,7 @@ use mathlib.Core.Path.{_≡_, refl}
 use mathlib.Core.Bool.{Bool, true, false, not, _&&_, _||_, false≢true}
 use mathlib.Core.List.{List}
 use lib.ListN.{getD}
-use Rattle.rules.specs.State.{Transfer}
+use Rattle.rules.specs.State.{Transfer, State}
 use Rattle.rules.specs.Seen.{automatic, normal, matched, reqSeen, path}
 use Rattle.rules.specs.StepD.{fifoConflict, pioReady, statusRaised}
 use Rattle.rules.specs.declared.registers.Registers.{Registers}
@@ -31,10 +31,12 @@ exclusive : (spio dma a b c x y : Bool) → (spio && not dma && a && b && c) ≡
 exclusive true dma a b c x y h = refl
 exclusive false dma a b c x y h = absurd (false≢true h)
 
-pub no-conflict : (r : Registers) (l : Lines) (t : Transfer) → pioReady r l t ≡ true → fifoConflict r ≡ false
+pub no-conflict : (s : State) → pioReady s ≡ true → fifoConflict (s .registers) ≡ false
 unfolding pioReady fifoConflict automatic normal
-no-conflict r l t h = exclusive (r .sxfrctl0 .spioen) (r .sxfrctl0 .dmaen) (matched r l) (reqSeen r l) (not (t .ack)) (r .sxfrctl0 .scsien) (not (path r)) h
+no-conflict s h =
+    let r = s .registers in
+    exclusive (r .sxfrctl0 .spioen) (r .sxfrctl0 .dmaen) (matched s) (reqSeen s) (not (s .transfer .ack)) (r .sxfrctl0 .scsien) (not (path r)) h
 
-pub raised-at : (m : List ℕ) {ready conflict : Bool} {t : Status} → ready ≡ pioReady (stateAt m) → conflict ≡ fifoConflict (registersAt m) → t ≡ statusOf (getD m statusPlace 0) → raisedBy ready conflict t ≡ statusRaised (stateAt m .registers) (stateAt m .lines) (stateAt m .transfer) (stateAt m .status)
+pub raised-at : (m : List ℕ) {ready conflict : Bool} {t : Status} → ready ≡ pioReady (stateAt m) → conflict ≡ fifoConflict (registersAt m) → t ≡ statusOf (getD m statusPlace 0) → raisedBy ready conflict t ≡ statusRaised (stateAt m)
 unfolding statusRaised stateAt
 raised-at m e f g = rw (e, f, g)

@@ -74,7 +74,7 @@ module _ (s : State) (m : List ℕ) (b n : ℕ) (p : m ≡ imageOf s) (r : InRan
       let g : shifted m ≡ laid (headOf s) (drop 1 q) (s .stack .bytes) (s .transfer .host) = ap shifted (w ∙ ap (λ (l : List ℕ). headOf s ++ (l ++ t)) y) ∙ shifted-eight s (padded 8 q) t ∙ ap (λ (l : List ℕ). headOf s ++ (l ++ t)) v in
       let x : n - 1 ≡ length (drop 1 q) = simp length-drop (omega arith) in
       ap (λ (l : List ℕ). set (set l 19 b) 23 (n - 1)) g
-      ∙ ap (λ (y : ℕ). set (set (laid (headOf s) (drop 1 q) (s .stack .bytes) (s .transfer .host)) 19 y) 23 (n - 1)) (e ∙ oldest h)
+      ∙ ap (λ (y : ℕ). set (set (laid (headOf s) (drop 1 q) (s .stack .bytes) (s .transfer .host)) 19 y) scsiCountPlace (n - 1)) (e ∙ oldest h)
       ∙ ap (λ (y : ℕ). set (set (laid (headOf s) (drop 1 q) (s .stack .bytes) (s .transfer .host)) 19 (getD q 0 0)) 23 y) x
       ∙ last-set s (drop 1 q) (getD q 0 0)
 
@@ -84,7 +84,7 @@ module _ (s : State) (m : List ℕ) (b n : ℕ) (p : m ≡ imageOf s) (r : InRan
       let l : length m ≡ imageSize = ap length p ∙ image-long s (r .transfer) (r .stack) in
       let g : set m (scsiBytesPlace + n) b ≡ laid (headOf s) (s .transfer .scsi ++ (b ∷ [])) (s .stack .bytes) (s .transfer .host) = set-paste m (scsiBytesPlace + n) b (omega arith) ∙ ap (λ (y : List ℕ). paste y (scsiBytesPlace + n) (b ∷ []) 1) w ∙ scsi-joined z (b ∷ []) (scsiBytesPlace + n) 1 (omega arith) (omega arith) (omega arith) in
       let x : n + 1 ≡ length (s .transfer .scsi ++ (b ∷ [])) = simp length-append (omega arith) in
-      ap (λ (y : List ℕ). set y 23 (n + 1)) g ∙ ap (λ (y : ℕ). set (laid (headOf s) (s .transfer .scsi ++ (b ∷ [])) (s .stack .bytes) (s .transfer .host)) 23 y) x
+      ap (λ (y : List ℕ). set y scsiCountPlace (n + 1)) g ∙ ap (λ (y : ℕ). set (laid (headOf s) (s .transfer .scsi ++ (b ∷ [])) (s .stack .bytes) (s .transfer .host)) 23 y) x
       ∙ scsi-set s (s .transfer .scsi ++ (b ∷ []))
 
 -- the counter and the offset, or the automatic ACK, in their places

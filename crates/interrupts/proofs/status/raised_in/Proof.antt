@@ -13,7 +13,7 @@ returns c =
     let ready = branch .before in
     let m = ready .before .before .args .m .now in
     let rises = sym (ready .pio-ready .ensures) ∙ branch .if1 .taken in
-    status-as (stateAt m) (raised-at m (sym rises) (sym (no-conflict (registersAt m) (linesAt m) (transferAt m) rises)) (unpacked .status-of .ensures)) (c .status-put .ensures)
+    status-as (stateAt m) (raised-at m (sym rises) (sym (no-conflict (stateAt m) rises)) (unpacked .status-of .ensures)) (c .status-put .ensures)
 
 returns-2 : tie.Need-returns-2
 returns-2 c =
