@@ -6,6 +6,7 @@ ghost use Rattle.rules.specs.StepC.{conditions, canMove};
 ghost use Rattle.image.specs.Image.{IsImage, stateAt};
 ghost use Rattle.settled.specs.Looks.{lookedAt, mayShake};
 ghost use Rattle.settled.specs.Settles.{Settles};
+use fifos::sent::Sent;
 use image::bus::matched;
 use image::bus::path;
 use image::bus::synchronous;
@@ -15,9 +16,9 @@ mod copies;
 mod moves;
 mod shakes;
 
-// What settling tells of: the bytes sent, then zeros, the moves and the ACKs.
+// What settling tells of: the bytes sent with their count, the moves and the ACKs.
 pub struct Told {
-    pub sent: [u8; 8],
+    pub sent: Sent,
     pub moves: u8,
     pub acks: u8,
 }
@@ -85,9 +86,8 @@ fn shaking(m: &mut [u8; 196], c: Conditions, made: u8) -> Told
         let more = moves::moved(m, c);
         moves = moves + more;
     }
-    let bytes = sent.bytes;
     Told {
-        sent: bytes,
+        sent: sent,
         moves: moves,
         acks: acks,
     }
@@ -101,8 +101,9 @@ fn moving(m: &mut [u8; 196]) -> Told
 {
     let c = conditions_of(m);
     let moves = moves::moved(m, c);
+    let sent = fifos::sent::none();
     Told {
-        sent: [0u8; 8],
+        sent: sent,
         moves: moves,
         acks: 0,
     }
@@ -114,8 +115,9 @@ pub fn settle(m: &mut [u8; 196]) -> Told
     ensures { λ r. ⌜ Settles (now (m .entry)) (conditions (stateAt (now (m .entry)))) (now (m .exit)) r ⌝ }
 {
     if !path(m) {
+        let sent = fifos::sent::none();
         return Told {
-            sent: [0u8; 8],
+            sent: sent,
             moves: 0,
             acks: 0,
         };
