@@ -16,11 +16,11 @@ mod copies;
 mod moves;
 mod shakes;
 
-// What settling tells of: the bytes sent with their count, the moves and the ACKs.
+// What settling tells of: the moves, the ACKs, and the bytes sent with their count.
 pub struct Told {
-    pub sent: Sent,
     pub moves: u8,
     pub acks: u8,
+    pub sent: Sent,
 }
 
 // "Handshake, if SCSIEN, path, matched."
@@ -75,7 +75,7 @@ fn shaking(m: &mut [u8; 196], c: Conditions, made: u8) -> Told
     requires { ⌜ IsImage (now m) ⌝ }
     requires { ⌜ canMove c ((stateAt (now m)) .transfer) ≡ false ⌝ }
     requires { ⌜ made ≤ 16 ⌝ }
-    ensures { λ r. ⌜ (made ≤ r .moves) × Settles (now (m .entry)) c (now (m .exit)) (record { sent = r .sent; moves = r .moves - made; acks = r .acks }) ⌝ }
+    ensures { λ r. ⌜ (made ≤ r .moves) × Settles (now (m .entry)) c (now (m .exit)) (record { moves = r .moves - made; acks = r .acks; sent = r .sent }) ⌝ }
 {
     let mut moves = made;
     let mut acks = 0u8;
@@ -87,9 +87,9 @@ fn shaking(m: &mut [u8; 196], c: Conditions, made: u8) -> Told
         moves = moves + more;
     }
     Told {
-        sent: sent,
         moves: moves,
         acks: acks,
+        sent: sent,
     }
 }
 
@@ -103,9 +103,9 @@ fn moving(m: &mut [u8; 196]) -> Told
     let moves = moves::moved(m, c);
     let sent = fifos::sent::none();
     Told {
-        sent: sent,
         moves: moves,
         acks: 0,
+        sent: sent,
     }
 }
 
@@ -117,9 +117,9 @@ pub fn settle(m: &mut [u8; 196]) -> Told
     if !path(m) {
         let sent = fifos::sent::none();
         return Told {
-            sent: sent,
             moves: 0,
             acks: 0,
+            sent: sent,
         };
     }
     if !possible(m) {
