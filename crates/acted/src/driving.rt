@@ -14,8 +14,8 @@ fn lines_put(m: &mut [u8; 196], high: u8, middle: u8, low: u8)
     requires { ⌜ IsImage (now m) ⌝ }
     ensures { λ _. ⌜ now (m .exit) ≡ imageOf (withLines (linesOf (payloadOf high middle low)) (stateAt (now (m .entry)))) ⌝ }
 {
-    m[14] = high % 4 * 64 + middle / 4;
-    m[15] = middle % 4;
+    m[14] = ((high & 3) << 6) | (middle >> 2);
+    m[15] = middle & 3;
     m[16] = low;
 }
 

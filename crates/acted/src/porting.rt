@@ -8,13 +8,14 @@ ghost use Rattle.acted.specs.Acting.{Acts};
 ghost use Rattle.acted.specs.CodeBy.{shutTo};
 use crate::Acted;
 use crate::done_with;
-use crate::refused_as;
+use crate::refused;
 use flags::status::status_kept_in;
 use given::values::oldest_word;
 use ports::host::host_popped;
 use ports::host::host_pushed;
 use ports::host::word_pushed;
 use rules::codes::Code;
+use rules::records::Event;
 
 // "data port shut: ENDMA 0, DMA/PIO 1, width or direction wrong"
 fn shut_to(m: &[u8; 196], wide: bool, read: bool) -> bool
@@ -33,10 +34,22 @@ pub fn byte_written(m: &mut [u8; 196], value: u8) -> Acted
     ensures { λ r. ⌜ Acts (stateAt (now (m .entry))) (Write (offsetOf DMADATA) value) (now (m .exit)) r ⌝ }
 {
     if shut_to(m, false, false) {
-        return refused_as(Code::Shut, 0);
+        return refused(
+            Code::Shut,
+            Event::Write {
+                offset: 0x16,
+                value: value,
+            },
+        );
     }
     if m[24] >= 128 {
-        return refused_as(Code::NoRoom, 0);
+        return refused(
+            Code::NoRoom,
+            Event::Write {
+                offset: 0x16,
+                value: value,
+            },
+        );
     }
     host_pushed(m, value);
     status_kept_in(m, false, false);
@@ -49,10 +62,10 @@ pub fn byte_read(m: &mut [u8; 196]) -> Acted
     ensures { λ r. ⌜ Acts (stateAt (now (m .entry))) (Read 0x16) (now (m .exit)) r ⌝ }
 {
     if shut_to(m, false, true) {
-        return refused_as(Code::Shut, 0xFF);
+        return refused(Code::Shut, Event::Read { offset: 0x16 });
     }
     if m[24] < 1 {
-        return refused_as(Code::NoBytes, 0xFF);
+        return refused(Code::NoBytes, Event::Read { offset: 0x16 });
     }
     let value = m[68];
     host_popped(m, 1);
@@ -66,10 +79,10 @@ pub fn word_written(m: &mut [u8; 196], word: u16) -> Acted
     ensures { λ r. ⌜ Acts (stateAt (now (m .entry))) (WordWrite word) (now (m .exit)) r ⌝ }
 {
     if shut_to(m, true, false) {
-        return refused_as(Code::Shut, 0);
+        return refused(Code::Shut, Event::WordWrite(word));
     }
     if m[24] >= 127 {
-        return refused_as(Code::NoRoom, 0);
+        return refused(Code::NoRoom, Event::WordWrite(word));
     }
     word_pushed(m, word);
     status_kept_in(m, false, false);
@@ -82,10 +95,10 @@ pub fn word_read(m: &mut [u8; 196]) -> Acted
     ensures { λ r. ⌜ Acts (stateAt (now (m .entry))) WordRead (now (m .exit)) r ⌝ }
 {
     if shut_to(m, true, true) {
-        return refused_as(Code::Shut, 0xFFFF);
+        return refused(Code::Shut, Event::WordRead);
     }
     if m[24] < 2 {
-        return refused_as(Code::NoBytes, 0xFFFF);
+        return refused(Code::NoBytes, Event::WordRead);
     }
     let value = oldest_word(m);
     host_popped(m, 2);

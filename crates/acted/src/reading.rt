@@ -9,18 +9,18 @@ ghost use Rattle.rules.specs.declared.records.Event.the-variants.{Read, WordRea
 ghost use Rattle.image.specs.Image.{IsImage, imageOf, stateAt, withStatus};
 ghost use Rattle.acted.specs.Acting.{Acts, doneWith};
 use crate::Acted;
+use crate::absent;
 use crate::done_with;
 use crate::porting::byte_read;
-use crate::refused_as;
 use crate::scsidat::latch_read;
 use flags::status::status_kept_in;
 use given::status::id_byte;
 use given::status::stack_byte;
 use given::values::read_register;
 use map::register_at;
-use rules::codes::Code;
 use rules::map::Mapped;
 use rules::map::Register;
+use rules::records::Event;
 use stores::identity_turned;
 use stores::stacking::popped;
 
@@ -80,6 +80,6 @@ pub fn read_in(m: &mut [u8; 196], offset: u8) -> Acted
     let found = register_at(offset, false);
     match found {
         Mapped::Present(register) => read_found(m, register),
-        Mapped::Missing => refused_as(Code::Absent, 0xFF),
+        Mapped::Missing => absent(Event::Read { offset: offset }),
     }
 }

@@ -8,12 +8,13 @@ ghost use Rattle.stores.specs.Found.{Written};
 ghost use Rattle.acted.specs.Acting.{Acts};
 ghost use Rattle.acted.specs.Writes.{Plain, channelCleared, counterCleared, hostCleared};
 use crate::Acted;
+use crate::absent;
 use crate::clearing::errors_cleared;
 use crate::clearing::interrupts_cleared;
 use crate::clearing::ready_cleared;
 use crate::done_with;
 use crate::porting::byte_written;
-use crate::refused_as;
+use crate::refused;
 use crate::scsidat::latch_filled;
 use flags::status::status_kept_in;
 use ports::counts::counter_zeroed;
@@ -25,6 +26,7 @@ use ports::scsi::channel_cleared;
 use rules::codes::Code;
 use rules::map::Mapped;
 use rules::map::Register;
+use rules::records::Event;
 use stores::stacking::pointed;
 use stores::stacking::pushed;
 use stores::storing::stored;
@@ -156,7 +158,13 @@ fn test_written(m: &mut [u8; 196], value: u8) -> Acted
         status_kept_in(m, false, false);
         return done_with(0, 0);
     }
-    refused_as(Code::TestValue, 0)
+    refused(
+        Code::TestValue,
+        Event::Write {
+            offset: 0x0E,
+            value: value,
+        },
+    )
 }
 
 // What a write finds: one arm for each register that can be written.
@@ -188,7 +196,10 @@ fn write_found(m: &mut [u8; 196], register: Register, value: u8) -> Acted
         Register::BRSTCNTRL => plain_written(m, Register::BRSTCNTRL, value),
         Register::STACK => stack_pushed(m, value),
         Register::TEST => test_written(m, value),
-        _ => refused_as(Code::Absent, 0),
+        _ => absent(Event::Write {
+            offset: 0,
+            value: value,
+        }),
     }
 }
 
@@ -200,6 +211,9 @@ pub fn write_in(m: &mut [u8; 196], offset: u8, value: u8) -> Acted
     let found = map::register_at(offset, true);
     match found {
         Mapped::Present(register) => write_found(m, register, value),
-        Mapped::Missing => refused_as(Code::Absent, 0),
+        Mapped::Missing => absent(Event::Write {
+            offset: offset,
+            value: value,
+        }),
     }
 }

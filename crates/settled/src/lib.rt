@@ -6,6 +6,7 @@ ghost use Rattle.rules.specs.StepC.{conditions, canMove};
 ghost use Rattle.image.specs.Image.{IsImage, stateAt};
 ghost use Rattle.settled.specs.Looks.{lookedAt, mayShake};
 ghost use Rattle.settled.specs.Settles.{Settles};
+use fifos::sent::Sent;
 use image::bus::matched;
 use image::bus::path;
 use image::bus::synchronous;
@@ -15,11 +16,11 @@ mod copies;
 mod moves;
 mod shakes;
 
-// What settling tells of: the bytes sent, then zeros, the moves and the ACKs.
+// What settling tells of: the moves, the ACKs, and the bytes sent with their count.
 pub struct Told {
-    pub sent: [u8; 8],
     pub moves: u8,
     pub acks: u8,
+    pub sent: Sent,
 }
 
 // "Handshake, if SCSIEN, path, matched."
@@ -74,7 +75,7 @@ fn shaking(m: &mut [u8; 196], c: Conditions, made: u8) -> Told
     requires { ⌜ IsImage (now m) ⌝ }
     requires { ⌜ canMove c ((stateAt (now m)) .transfer) ≡ false ⌝ }
     requires { ⌜ made ≤ 16 ⌝ }
-    ensures { λ r. ⌜ (made ≤ r .moves) × Settles (now (m .entry)) c (now (m .exit)) (record { sent = r .sent; moves = r .moves - made; acks = r .acks }) ⌝ }
+    ensures { λ r. ⌜ (made ≤ r .moves) × Settles (now (m .entry)) c (now (m .exit)) (record { moves = r .moves - made; acks = r .acks; sent = r .sent }) ⌝ }
 {
     let mut moves = made;
     let mut acks = 0u8;
@@ -85,11 +86,10 @@ fn shaking(m: &mut [u8; 196], c: Conditions, made: u8) -> Told
         let more = moves::moved(m, c);
         moves = moves + more;
     }
-    let bytes = sent.bytes;
     Told {
-        sent: bytes,
         moves: moves,
         acks: acks,
+        sent: sent,
     }
 }
 
@@ -101,10 +101,11 @@ fn moving(m: &mut [u8; 196]) -> Told
 {
     let c = conditions_of(m);
     let moves = moves::moved(m, c);
+    let sent = fifos::sent::none();
     Told {
-        sent: [0u8; 8],
         moves: moves,
         acks: 0,
+        sent: sent,
     }
 }
 
@@ -114,10 +115,11 @@ pub fn settle(m: &mut [u8; 196]) -> Told
     ensures { λ r. ⌜ Settles (now (m .entry)) (conditions (stateAt (now (m .entry)))) (now (m .exit)) r ⌝ }
 {
     if !path(m) {
+        let sent = fifos::sent::none();
         return Told {
-            sent: [0u8; 8],
             moves: 0,
             acks: 0,
+            sent: sent,
         };
     }
     if !possible(m) {
