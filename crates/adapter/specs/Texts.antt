@@ -1,9 +1,9 @@
 -- The lines that records give, and the bytes that wait for the next read: what the program does between a read and a write.
-use Prim.Native.Nat.{ℕ, _+_, _*_, _/_, _%_, _≤_, _<_, min}
+use Prim.Native.Nat.{ℕ, _+_, _*_, _-_, _/_, _%_, _≤_, _<_, min}
 use mathlib.Core.Path.{_≡_}
-use mathlib.Core.Bool.{Bool, true, false, cond}
+use mathlib.Core.Bool.{Bool, true, false, not, _&&_, cond}
 use mathlib.Core.List.{List, [], _∷_, _++_}
-use lib.ListN.{length, take, drop, getD}
+use lib.ListN.{length, take, drop, getD, set}
 use Rattle.rules.specs.Chips.{view, chipOf}
 use Rattle.rules.specs.Step.{after, answers}
 use Rattle.rules.specs.declared.chip.Chip.{Chip}
@@ -11,6 +11,7 @@ use Rattle.hex.specs.Hex.{linesOf}
 use Rattle.step.specs.Runs.{recordsOf, recordsIn, joined}
 use Rattle.adapter.specs.declared.Printed.{Printed}
 use Rattle.adapter.specs.declared.Received.{Received}
+use Rattle.adapter.specs.declared.Turned.{Turned}
 
 -- how many records are stepped, and how many of their answers have room for a line
 abbrev pub stepped : List ℕ → ℕ
@@ -46,3 +47,27 @@ pub record IsReceived (kept : ℕ) (before now : List ℕ) (r : Received) : Type
   pub held : r .held ≤ length now
   pub grown : r .«is_end» ≡ false → kept < r .held
   pub ended : r .«is_end» ≡ true → r .held ≤ kept
+
+-- the bytes that waited, in front of the input
+abbrev pub withFront : List ℕ → List ℕ → List ℕ
+withFront waited input = set (set (set input 0 (getD waited 0 0)) 1 (getD waited 1 0)) 2 (getD waited 2 0)
+
+-- where the whole records of what is held end, and those records
+abbrev pub wholeEnd : Received → ℕ
+wholeEnd r = r .held - leftOver (r .held) (r .«is_end»)
+
+abbrev pub whole : Received → List ℕ → List ℕ
+whole r input = take (wholeEnd r) input
+
+-- the lines of all that were stepped, as many as there is room for
+abbrev pub printedAs : Chip → List ℕ → List ℕ → Printed
+printedAs chip bytes before = record { chip = chip; size = 33 * printed bytes before }
+
+-- one turn: what was read, and whether the lines were written, decide all else
+pub record IsTurned (c : Chip) (waited : List ℕ) (count : ℕ) (input read room filled blank lines : List ℕ) (r : Turned) : Type 0 where
+  pub received : IsReceived count (withFront waited input) read (r .received)
+  pub shown : IsPrinted c (whole (r .received) read) blank lines (printedAs (r .chip) (whole (r .received) read) blank)
+  pub answers : filled ≡ answered c (whole (r .received) read) ++ drop (16 * stepped (whole (r .received) read)) room
+  pub left : r .left ≡ tailFrom (take (r .received .held) read) (wholeEnd (r .received))
+  pub kept : r .kept ≡ leftOver (r .received .held) (r .received .«is_end»)
+  pub more : r .more ≡ (r .«is_written» && not (r .received .«is_end»))

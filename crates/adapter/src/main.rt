@@ -3,7 +3,7 @@ ghost use mathlib.Core.Path.{_≡_};
 ghost use mathlib.Core.List.{_++_};
 ghost use Prim.Native.Nat.{_*_, _≤_};
 ghost use lib.ListN.{drop, length, getD};
-ghost use Rattle.adapter.specs.Texts.{IsPrinted, IsReceived, answered, leftOver, nothing, stepped, tailFrom};
+ghost use Rattle.adapter.specs.Texts.{IsPrinted, IsReceived, IsTurned, answered, leftOver, nothing, stepped, tailFrom};
 use rules::chip::Chip;
 
 // The chip after some records, and the number of bytes of their lines.
@@ -18,8 +18,10 @@ pub struct Received {
     pub is_end: bool,
 }
 
-// What a turn leaves for the next: the chip, the bytes of a record not yet whole, and whether to go on.
+// What came from outside, the read and whether the lines were written, and what follows: the chip, the bytes that wait, whether to go on.
 pub struct Turned {
+    pub received: Received,
+    pub is_written: bool,
     pub chip: Chip,
     pub left: [u8; 4],
     pub kept: usize,
@@ -122,7 +124,7 @@ fn turn(
     requires { ⌜ length (now input) ≡ 4100 ⌝ }
     requires { ⌜ length (now answers) ≡ 16400 ⌝ }
     requires { ⌜ length (now text) ≡ 33825 ⌝ }
-    ensures { λ r. ⌜ r .kept ≤ 3 ⌝ }
+    ensures { λ r. ⌜ IsTurned c left kept (now (input .entry)) (now (input .exit)) (now (answers .entry)) (now (answers .exit)) (now (text .entry)) (now (text .exit)) r ⌝ }
 {
     input[0] = left[0];
     input[1] = left[1];
@@ -137,6 +139,8 @@ fn turn(
     let left = tail(&input[..held], end);
     let chip = p.chip;
     Turned {
+        received: received,
+        is_written: is_written,
         chip: chip,
         left: left,
         kept: rest,

@@ -7,9 +7,9 @@ use native.Mathlib.Omega.{arith}
 use lib.Dec.{eqb, ltb}
 use lib.ListN.{length}
 use borrow.Author.Tests.{le-ltb}
-use Rattle.rules.specs.Map.{readAt, writtenAt, isMissing}
+use Rattle.rules.specs.Map.{readAt, writtenAt}
 use Rattle.rules.specs.Events.{writes, valueOf, offered, asked, wide, portWrite, portRead}
-use Rattle.rules.specs.Codes.{absent, testValue}
+use Rattle.rules.specs.Codes.{absent, testValue, isRefusal, mappedCode}
 use Rattle.rules.specs.declared.registers.Dmacntrl0.{Dmacntrl0}
 use Rattle.rules.specs.declared.codes.Code.the-variants.{Done}
 use Rattle.rules.specs.declared.records.Event.the-variants.{Write, Read, WordWrite, WordRead, Drive, Ticks}
@@ -37,11 +37,11 @@ module _ (d : Dmacntrl0) (held : ℕ) (h : held ≤ 128) where
   no-byte-wanted : ltb held 0 ≡ false
   no-byte-wanted = le-ltb held 0 (omega arith)
 
-  pub written : (offset value : ℕ) → firstOf (isMissing (writtenAt offset)) ((eqb offset 0x0E || eqb offset 0x1E) && not (eqb value 0)) (eqb offset 0x16 && shutTo d false false) (eqb offset 0x16 && ltb 128 (held + 1)) false ≡ codeBy d held (Write offset value)
+  pub written : (offset value : ℕ) → firstOf (isRefusal (mappedCode (writtenAt offset))) ((eqb offset 0x0E || eqb offset 0x1E) && not (eqb value 0)) (eqb offset 0x16 && shutTo d false false) (eqb offset 0x16 && ltb 128 (held + 1)) false ≡ codeBy d held (Write offset value)
   unfolding codeBy absent testValue writes valueOf offered asked wide portWrite portRead
   written offset value = rw (wants-room (eqb offset 0x16) held value h, no-byte-wanted, or-false (eqb offset 0x16))
 
-  pub read : (offset : ℕ) → firstOf (isMissing (readAt offset)) false (eqb offset 0x16 && shutTo d false true) false (eqb offset 0x16 && ltb held 1) ≡ codeBy d held (Read offset)
+  pub read : (offset : ℕ) → firstOf (isRefusal (mappedCode (readAt offset))) false (eqb offset 0x16 && shutTo d false true) false (eqb offset 0x16 && ltb held 1) ≡ codeBy d held (Read offset)
   unfolding codeBy absent testValue writes valueOf offered asked wide portWrite portRead
   read offset = rw (wants-byte (eqb offset 0x16) held, no-room-wanted, shut-at (eqb offset 0x16) d)
 

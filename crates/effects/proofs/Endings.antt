@@ -18,5 +18,5 @@ use Rattle.effects.specs.Acting.{Acts, refusedAs, doneWith}
 pub acts-done : (s : State) (e : Event) {m : List ℕ} {v t : ℕ} {a : Acted} → accessCode s e ≡ Done → m ≡ imageOf (afterA s e) → v ≡ valueRead s e → t ≡ ticksOf e → a ≡ doneWith v t → Acts s e m a
 acts-done s e d i v t a = record { image = rw d i; ends = rw (a, d); code = rw (a, d); value = rw (a, d) v; ticks = rw a t }
 
-pub acts-refused : (s : State) (e : Event) (k : Code) {m : List ℕ} {v : ℕ} {a : Acted} → accessCode s e ≡ k → isDone k ≡ false → m ≡ imageOf s → v ≡ refusedValue e → 0 ≡ ticksOf e → a ≡ refusedAs k v → Acts s e m a
-acts-refused s e k d f i v t a = record { image = rw (d, f) i; ends = rw (a, d, f); code = rw (a, d); value = rw (a, d, f) v; ticks = rw a t }
+pub acts-refused : (s : State) (e : Event) (k : Code) {m : List ℕ} {a : Acted} → accessCode s e ≡ k → isDone k ≡ false → m ≡ imageOf s → 0 ≡ ticksOf e → a ≡ refusedAs k (refusedValue e) → Acts s e m a
+acts-refused s e k d f i t a = record { image = rw (d, f) i; ends = rw (a, d, f); code = rw (a, d); value = rw (a, d, f); ticks = rw a t }

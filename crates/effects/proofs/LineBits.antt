@@ -5,7 +5,9 @@ use native.Mathlib.Omega.{arith}
 use Rattle.rules.specs.Numbers.{bit, one, byteOf}
 use Rattle.rules.specs.Records.{linesOf, payloadOf}
 use Rattle.image.specs.Image.{upperByte, controlByte}
+use lib.Bits.{bitAnd, bitOr, and-mask}
 use Rattle.reads.proofs.LatchByte.{one-bit, six}
+use Rattle.laws.proofs.Bits.{joined}
 
 -- each bit above those below it
 top-7 : (v : ℕ) → v % 256 ≡ one (bit v 7) * 128 + v % 128
@@ -18,13 +20,13 @@ eight : (v : ℕ) → v % 256 ≡ byteOf (bit v 7) (bit v 6) (bit v 5) (bit v 4)
 eight v = omega (arith, top-7 v, top-6 v, six v)
 
 module _ (h m l : ℕ) (i : m < 256) (j : l < 256) where
-  pub line-byte : h % 4 * 64 + m / 4 ≡ (linesOf (payloadOf h m l)) .byte
+  pub line-byte : bitOr (bitAnd h 3 * 64 % 256) (m / 4) ≡ (linesOf (payloadOf h m l)) .byte
   unfolding linesOf
-  line-byte = omega arith
+  line-byte = omega (arith, joined 8 6 (m / 4) (and-mask h 2) (omega arith) (omega arith))
 
-  pub line-upper : m % 4 ≡ upperByte (linesOf (payloadOf h m l))
+  pub line-upper : bitAnd m 3 ≡ upperByte (linesOf (payloadOf h m l))
   unfolding linesOf
-  line-upper = rw (one-bit (payloadOf h m l / 2 ^ 9 % 2) (omega arith), one-bit (payloadOf h m l / 2 ^ 8 % 2) (omega arith)) (omega arith)
+  line-upper = rw (and-mask m 2, one-bit (payloadOf h m l / 2 ^ 9 % 2) (omega arith), one-bit (payloadOf h m l / 2 ^ 8 % 2) (omega arith)) (omega arith)
 
   pub line-control : l ≡ controlByte (linesOf (payloadOf h m l))
   unfolding linesOf

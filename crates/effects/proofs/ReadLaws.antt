@@ -6,14 +6,14 @@ use mathlib.Core.List.{List}
 use lib.Dec.{eqb, ltb}
 use lib.ListN.{getD}
 use Rattle.rules.specs.State.{State}
-use Rattle.rules.specs.Map.{readAt, isMissing}
+use Rattle.rules.specs.Map.{readAt}
 use Rattle.rules.specs.Events.{writes, ticksOf}
-use Rattle.rules.specs.Codes.{accessCode, isDone, refusedValue}
+use Rattle.rules.specs.Codes.{accessCode, isDone, isRefusal, refusedValue, mappedCode}
 use Rattle.rules.specs.Reads.{valueRead}
 use Rattle.rules.specs.Ranges.{InRange, InBytes}
 use Rattle.rules.specs.StepA.{clears, clearsError, latchAccess, automaticAck, statusA, afterA}
 use Rattle.rules.specs.declared.codes.Code.{Code}
-use Rattle.rules.specs.declared.codes.Code.the-variants.{Done, Absent}
+use Rattle.rules.specs.declared.codes.Code.the-variants.{Done}
 use Rattle.rules.specs.declared.map.Register.{Register}
 use Rattle.rules.specs.declared.map.Mapped.the-variants.{Present, Missing}
 use Rattle.rules.specs.declared.records.Event.the-variants.{Read, WordRead}
@@ -30,18 +30,18 @@ use Rattle.image.specs.Layout.{hostCountPlace}
 
 module _ {m : List ℕ} (g : IsImage m) (o : ℕ) where
   -- by what stands there and, at the port, by its tests
-  read-code : firstOf (isMissing (readAt o)) false (eqb o 0x16 && shutTo ((stateAt m) .registers .dmacntrl0) false true) false (eqb o 0x16 && ltb (getD m hostCountPlace 0) 1) ≡ accessCode (stateAt m) (Read o)
+  read-code : firstOf (isRefusal (mappedCode (readAt o))) false (eqb o 0x16 && shutTo ((stateAt m) .registers .dmacntrl0) false true) false (eqb o 0x16 && ltb (getD m hostCountPlace 0) 1) ≡ accessCode (stateAt m) (Read o)
   read-code = read ((stateAt m) .registers .dmacntrl0) (getD m hostCountPlace 0) (held-fits g) o ∙ code-at-is g (Read o)
 
   pub read-done : (r : Register) → readAt o ≡ Present r → eqb o 0x16 ≡ false → accessCode (stateAt m) (Read o) ≡ Done
   read-done r found away = sym (rw (found, away) at read-code)
 
-  pub read-missing : readAt o ≡ Missing → accessCode (stateAt m) (Read o) ≡ Absent
+  pub read-missing : readAt o ≡ Missing → accessCode (stateAt m) (Read o) ≡ mappedCode Missing
   read-missing found = sym (rw found at read-code)
 
-  pub read-refused : (k : Code) {a : Acted} → accessCode (stateAt m) (Read o) ≡ k → isDone k ≡ false → a ≡ refusedAs k 0xFF → Acts (stateAt m) (Read o) m a
-  unfolding ticksOf refusedValue
-  read-refused k d f a = acts-refused (stateAt m) (Read o) k d f (g .packed) refl refl a
+  pub read-refused : (k : Code) {a : Acted} → accessCode (stateAt m) (Read o) ≡ k → isDone k ≡ false → a ≡ refusedAs k (refusedValue (Read o)) → Acts (stateAt m) (Read o) m a
+  unfolding ticksOf
+  read-refused k d f a = acts-refused (stateAt m) (Read o) k d f (g .packed) refl a
 
 -- "While ENSPCHK is 0, SCSIPERR is held at 0": all but that is done by the time it comes
 abbrev pub unheld : State → ℕ → State

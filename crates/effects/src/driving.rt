@@ -6,12 +6,12 @@ ghost use Rattle.rules.specs.declared.records.Event.the-variants.{Drive, Ticks}
 ghost use Rattle.rules.specs.Changed.{withLines};
 ghost use Rattle.image.specs.Image.{IsImage, imageOf, stateAt};
 ghost use Rattle.effects.specs.Acting.{Acts};
-use crate::Acted;
-use crate::done_with;
 use image::layout::Image;
 use image::layout::LINES_CONTROL;
 use image::layout::LINES_DATA;
 use image::layout::LINES_UPPER;
+use crate::Acted;
+use crate::done_with;
 use interrupts::status::status_kept_in;
 
 // Data from bit 17 on, then parity and RST, then the lines in the order of 343h.
@@ -19,8 +19,8 @@ fn lines_put(m: &mut Image, high: u8, middle: u8, low: u8)
     requires { ⌜ IsImage (now m) ⌝ }
     ensures { λ _. ⌜ now (m .exit) ≡ imageOf (withLines (linesOf (payloadOf high middle low)) (stateAt (now (m .entry)))) ⌝ }
 {
-    m[LINES_DATA] = high % 4 * 64 + middle / 4;
-    m[LINES_UPPER] = middle % 4;
+    m[LINES_DATA] = ((high & 3) << 6) | (middle >> 2);
+    m[LINES_UPPER] = middle & 3;
     m[LINES_CONTROL] = low;
 }
 

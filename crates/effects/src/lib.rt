@@ -1,7 +1,11 @@
 // A, "The event's own effect", in place: the checks of an access, and what it does.
 ghost use mathlib.Core.Path.{_≡_};
+ghost use Rattle.rules.specs.Codes.{refusedValue, mappedCode, mappedValue};
+ghost use Rattle.rules.specs.declared.map.Mapped.the-variants.{Missing};
 ghost use Rattle.effects.specs.Acting.{refusedAs, doneWith};
 use rules::codes::Code;
+use rules::records::Event;
+use wire::refused_value;
 
 mod clearing;
 pub mod driving;
@@ -18,7 +22,7 @@ pub struct Acted {
     pub ends: bool,
 }
 
-// An event that is refused.
+// An answer that is ready: a refusal, or a power reset.
 pub fn refused_as(code: Code, value: u16) -> Acted
     ensures { λ r. ⌜ r ≡ refusedAs code value ⌝ }
 {
@@ -28,6 +32,20 @@ pub fn refused_as(code: Code, value: u16) -> Acted
         ticks: 0,
         ends: true,
     }
+}
+
+// An access that is refused, with the value that document 01 gives the refusals of its kind.
+fn refused(code: Code, e: Event) -> Acted
+    ensures { λ r. ⌜ r ≡ refusedAs code (refusedValue e) ⌝ }
+{
+    refused_as(code, refused_value(e))
+}
+
+// An access that finds nothing at its offset: "register absent in that direction".
+fn absent(e: Event) -> Acted
+    ensures { λ r. ⌜ r ≡ refusedAs (mappedCode Missing) (mappedValue Missing e) ⌝ }
+{
+    refused(Code::Absent, e)
 }
 
 // An event that goes on to B.

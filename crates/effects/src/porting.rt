@@ -6,19 +6,20 @@ ghost use Rattle.rules.specs.declared.records.Event.the-variants.{Write, Read, 
 ghost use Rattle.image.specs.Image.{IsImage, stateAt};
 ghost use Rattle.effects.specs.Acting.{Acts};
 ghost use Rattle.effects.specs.CodeBy.{shutTo};
-use crate::Acted;
-use crate::done_with;
-use crate::refused_as;
-use datapath::host::host_popped;
-use datapath::host::host_pushed;
-use datapath::host::word_pushed;
 use image::layout::DMACNTRL0;
 use image::layout::HOST_BYTES;
 use image::layout::HOST_COUNT;
 use image::layout::Image;
+use crate::Acted;
+use crate::done_with;
+use crate::refused;
 use interrupts::status::status_kept_in;
 use reads::values::oldest_word;
+use datapath::host::host_popped;
+use datapath::host::host_pushed;
+use datapath::host::word_pushed;
 use rules::codes::Code;
+use rules::records::Event;
 
 // "data port shut: ENDMA 0, DMA/PIO 1, width or direction wrong"
 fn shut_to(m: &Image, wide: bool, read: bool) -> bool
@@ -37,10 +38,22 @@ pub fn byte_written(m: &mut Image, value: u8) -> Acted
     ensures { λ r. ⌜ Acts (stateAt (now (m .entry))) (Write (offsetOf DMADATA) value) (now (m .exit)) r ⌝ }
 {
     if shut_to(m, false, false) {
-        return refused_as(Code::Shut, 0);
+        return refused(
+            Code::Shut,
+            Event::Write {
+                offset: 0x16,
+                value: value,
+            },
+        );
     }
     if m[HOST_COUNT] >= 128 {
-        return refused_as(Code::NoRoom, 0);
+        return refused(
+            Code::NoRoom,
+            Event::Write {
+                offset: 0x16,
+                value: value,
+            },
+        );
     }
     host_pushed(m, value);
     status_kept_in(m, false, false);
@@ -53,10 +66,10 @@ pub fn byte_read(m: &mut Image) -> Acted
     ensures { λ r. ⌜ Acts (stateAt (now (m .entry))) (Read 0x16) (now (m .exit)) r ⌝ }
 {
     if shut_to(m, false, true) {
-        return refused_as(Code::Shut, 0xFF);
+        return refused(Code::Shut, Event::Read { offset: 0x16 });
     }
     if m[HOST_COUNT] < 1 {
-        return refused_as(Code::NoBytes, 0xFF);
+        return refused(Code::NoBytes, Event::Read { offset: 0x16 });
     }
     let value = m[HOST_BYTES];
     host_popped(m, 1);
@@ -70,10 +83,10 @@ pub fn word_written(m: &mut Image, word: u16) -> Acted
     ensures { λ r. ⌜ Acts (stateAt (now (m .entry))) (WordWrite word) (now (m .exit)) r ⌝ }
 {
     if shut_to(m, true, false) {
-        return refused_as(Code::Shut, 0);
+        return refused(Code::Shut, Event::WordWrite(word));
     }
     if m[HOST_COUNT] >= 127 {
-        return refused_as(Code::NoRoom, 0);
+        return refused(Code::NoRoom, Event::WordWrite(word));
     }
     word_pushed(m, word);
     status_kept_in(m, false, false);
@@ -86,10 +99,10 @@ pub fn word_read(m: &mut Image) -> Acted
     ensures { λ r. ⌜ Acts (stateAt (now (m .entry))) WordRead (now (m .exit)) r ⌝ }
 {
     if shut_to(m, true, true) {
-        return refused_as(Code::Shut, 0xFFFF);
+        return refused(Code::Shut, Event::WordRead);
     }
     if m[HOST_COUNT] < 2 {
-        return refused_as(Code::NoBytes, 0xFFFF);
+        return refused(Code::NoBytes, Event::WordRead);
     }
     let value = oldest_word(m);
     host_popped(m, 2);

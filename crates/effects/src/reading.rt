@@ -9,20 +9,20 @@ ghost use Rattle.rules.specs.declared.records.Event.the-variants.{Read, WordRea
 ghost use Rattle.rules.specs.Changed.{withStatus};
 ghost use Rattle.image.specs.Image.{IsImage, imageOf, stateAt};
 ghost use Rattle.effects.specs.Acting.{Acts, doneWith};
+use image::layout::Image;
 use crate::Acted;
+use crate::absent;
 use crate::done_with;
 use crate::porting::byte_read;
-use crate::refused_as;
 use crate::scsidat::latch_read;
-use image::layout::Image;
 use interrupts::status::status_kept_in;
-use map::register_at;
 use reads::status::id_byte;
 use reads::status::stack_byte;
 use reads::values::read_register;
-use rules::codes::Code;
+use map::register_at;
 use rules::map::Mapped;
 use rules::map::Register;
+use rules::records::Event;
 use writes::identity_turned;
 use writes::stacking::popped;
 
@@ -82,6 +82,6 @@ pub fn read_in(m: &mut Image, offset: u8) -> Acted
     let found = register_at(offset, false);
     match found {
         Mapped::Present(register) => read_found(m, register),
-        Mapped::Missing => refused_as(Code::Absent, 0xFF),
+        Mapped::Missing => absent(Event::Read { offset: offset }),
     }
 }

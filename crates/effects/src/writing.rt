@@ -7,25 +7,27 @@ ghost use Rattle.image.specs.Image.{IsImage, imageOf, stateAt};
 ghost use Rattle.writes.specs.Found.{Written};
 ghost use Rattle.effects.specs.Acting.{Acts};
 ghost use Rattle.effects.specs.Writes.{Plain, channelCleared, counterCleared, hostCleared};
+use image::layout::Image;
 use crate::Acted;
+use crate::absent;
 use crate::clearing::errors_cleared;
 use crate::clearing::interrupts_cleared;
 use crate::clearing::ready_cleared;
 use crate::done_with;
 use crate::porting::byte_written;
-use crate::refused_as;
+use crate::refused;
 use crate::scsidat::latch_filled;
+use interrupts::status::status_kept_in;
 use datapath::counts::counter_zeroed;
 use datapath::counts::high_written;
 use datapath::counts::low_written;
 use datapath::counts::middle_written;
 use datapath::host::host_emptied;
 use datapath::scsi::channel_cleared;
-use image::layout::Image;
-use interrupts::status::status_kept_in;
 use rules::codes::Code;
 use rules::map::Mapped;
 use rules::map::Register;
+use rules::records::Event;
 use writes::stacking::pointed;
 use writes::stacking::pushed;
 use writes::storing::stored;
@@ -157,7 +159,13 @@ fn test_written(m: &mut Image, value: u8) -> Acted
         status_kept_in(m, false, false);
         return done_with(0, 0);
     }
-    refused_as(Code::TestValue, 0)
+    refused(
+        Code::TestValue,
+        Event::Write {
+            offset: 0x0E,
+            value: value,
+        },
+    )
 }
 
 // What a write finds: one arm for each register that can be written.
@@ -189,7 +197,10 @@ fn write_found(m: &mut Image, register: Register, value: u8) -> Acted
         Register::BRSTCNTRL => plain_written(m, Register::BRSTCNTRL, value),
         Register::STACK => stack_pushed(m, value),
         Register::TEST => test_written(m, value),
-        _ => refused_as(Code::Absent, 0),
+        _ => absent(Event::Write {
+            offset: 0,
+            value: value,
+        }),
     }
 }
 
@@ -201,6 +212,9 @@ pub fn write_in(m: &mut Image, offset: u8, value: u8) -> Acted
     let found = map::register_at(offset, true);
     match found {
         Mapped::Present(register) => write_found(m, register, value),
-        Mapped::Missing => refused_as(Code::Absent, 0),
+        Mapped::Missing => absent(Event::Write {
+            offset: offset,
+            value: value,
+        }),
     }
 }

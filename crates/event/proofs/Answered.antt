@@ -2,7 +2,6 @@
 use mathlib.Core.Path.{_≡_, ap, sym, _∙_}
 use mathlib.Core.List.{List}
 use Prim.Native.Nat.{ℕ}
-use Rattle.rules.specs.Numbers.{padded}
 use Rattle.rules.specs.State.{State}
 use Rattle.rules.specs.Answers.{Stepped, answerOf, answerBytes}
 use Rattle.rules.specs.Ranges.{InRange, InBytes}
@@ -28,13 +27,13 @@ module _ {m : List ℕ} (g : IsImage m) (bytes : List ℕ) {n : List ℕ} {o : O
   pub image-left : IsImage n
   image-left = image-is (x .state) (l .image) range in-bytes
 
-  pub gives : {r : List ℕ} → r ≡ answerBytes (answerWith (stateAt n) (o .code) (o .value) (o .moves) (o .acks) (o .sent)) → Gives x n (record { code = o .code; answer = r })
+  pub gives : {r : List ℕ} → r ≡ answerBytes (answerWith (stateAt n) (o .code) (o .value) (o .moves) (o .acks) (o .sent .bytes)) → Gives x n (record { code = o .code; answer = r })
   gives h =
       record {
         image = l .image;
         code = l .code;
         answer =
             h
-            ∙ (λ i. answerBytes (answerWith (state-is (x .state) (l .image) range in-bytes i) (l .code i) (l .value i) (l .moves i) (l .acks i) (l .sent i)))
+            ∙ (λ i. answerBytes (answerWith (state-is (x .state) (l .image) range in-bytes i) (l .code i) (l .value i) (l .moves i) (l .acks i) ((l .sent i) .bytes)))
             ∙ ap answerBytes (sym (answer-parts x));
       }

@@ -3,7 +3,6 @@ use Prim.Native.Nat.{ℕ}
 use mathlib.Core.Path.{_≡_, refl, ap, sym, _∙_}
 use mathlib.Core.Bool.{Bool, true, false, not}
 use mathlib.Core.List.{List}
-use Rattle.rules.specs.Numbers.{padded}
 use Rattle.rules.specs.State.{State, powerReset}
 use Rattle.rules.specs.Seen.{rstSeen, reqSeen, mismatched}
 use Rattle.rules.specs.Registers.{simode0Of, simode1Of}
@@ -19,6 +18,7 @@ use Rattle.rules.specs.declared.records.Decoded.{Decoded}
 use Rattle.rules.specs.declared.records.Decoded.the-variants.{Well, Ill}
 use Rattle.rules.proofs.Logic.{never}
 use Rattle.effects.proofs.DoneCode.{code-done}
+use Rattle.fifos.specs.Fifos.{sentOf}
 use Rattle.image.specs.Image.{imageOf}
 use Rattle.effects.specs.declared.Acted.{Acted}
 use Rattle.effects.specs.Acting.{Acts}
@@ -46,7 +46,7 @@ access-refused s e h = rw h
 
 -- a refusal, or a power reset
 refused-leaves : (s : State) {code : Code} {value : ℕ} {m : List ℕ} {c : Code} {v : ℕ} → m ≡ imageOf s → c ≡ code → v ≡ value → Leaves (refused s code value) m (endedAs c v)
-unfolding ended padded
+unfolding ended
 refused-leaves s i c v = record { image = i; code = c; value = v; moves = refl; acks = refl; sent = refl }
 
 pub leaves-as : {x y : Stepped} {m : List ℕ} {o : Outcome} → x ≡ y → Leaves x m o → Leaves y m o
@@ -57,7 +57,7 @@ leaves-as p l =
       value = l .value ∙ ap (λ (x : Stepped). x .value) p;
       moves = l .moves ∙ ap (λ (x : Stepped). x .moves) p;
       acks = l .acks ∙ ap (λ (x : Stepped). x .acks) p;
-      sent = l .sent ∙ ap (λ (x : Stepped). padded 8 (x .sent)) p;
+      sent = l .sent ∙ ap (λ (x : Stepped). sentOf (x .sent)) p;
     }
 
 module _ (s : State) {m : List ℕ} (a : Acted) where

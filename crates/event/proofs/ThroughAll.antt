@@ -3,7 +3,6 @@ use mathlib.Core.Path.{_≡_, ap, sym, _∙_}
 use mathlib.Core.Bool.{Bool, cond}
 use mathlib.Core.List.{List}
 use Prim.Native.Nat.{ℕ}
-use Rattle.rules.specs.Numbers.{padded}
 use Rattle.rules.specs.State.{State}
 use Rattle.rules.specs.Seen.{path}
 use Rattle.rules.specs.Reads.{valueRead}
@@ -19,6 +18,7 @@ use Rattle.rules.specs.declared.records.Event.{Event}
 use Rattle.rules.specs.declared.registers.Simode0.{Simode0}
 use Rattle.rules.specs.declared.registers.Simode1.{Simode1}
 use Rattle.rules.specs.declared.chip.Status.{Status}
+use Rattle.fifos.specs.Fifos.{sentOf}
 use Rattle.rules.specs.Changed.{withTransfer}
 use Rattle.image.specs.Image.{imageOf, stateAt, registersAt, IsImage}
 use Rattle.settling.specs.Parts.{startOf}
@@ -70,5 +70,5 @@ module _ (s : State) (e : Event) (i : InRange (afterB s e)) (j : InBytes (afterB
           value = v;
           moves = w .moves ∙ ap (λ (x : Settling). x .moves) end-is;
           acks = acks-are;
-          sent = w .sent ∙ ap (λ (x : Settling). padded 8 (x .sent)) end-is;
+          sent = w .sent ∙ ap (λ (x : Settling). sentOf (x .sent)) end-is;
         }

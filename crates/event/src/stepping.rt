@@ -1,25 +1,25 @@
 // One event on an image: A, then, if it was not refused, B, C and D, then the answer.
 ghost use mathlib.Core.Path.{_≡_};
-ghost use lib.ListN.{replicate};
 ghost use Rattle.rules.specs.Step.{step};
 ghost use Rattle.image.specs.Image.{IsImage, stateAt};
 ghost use Rattle.event.specs.Given.{Leaves, Gives, endedAs};
-use crate::finishing::finished;
-use crate::opening::opened;
-use edges::since::seen_in;
 use image::layout::Image;
 use image::layout::SIMODE0;
 use image::layout::SIMODE1;
+use crate::finishing::finished;
+use crate::opening::opened;
+use edges::since::seen_in;
+use fifos::sent::Sent;
 use reads::answers::answer_of;
 use rules::codes::Code;
 
-// What an event gives beside the new state, the bytes sent in eight places.
+// What an event gives beside the new state; the bytes sent by value with their count.
 pub struct Outcome {
     pub code: Code,
     pub value: u16,
     pub moves: u8,
     pub acks: u8,
-    pub sent: [u8; 8],
+    pub sent: Sent,
 }
 
 // What a record gives: the sixteen bytes of its answer, and its code.
@@ -32,7 +32,7 @@ pub struct Reply {
 fn ended(code: Code, value: u16) -> Outcome
     ensures { λ r. ⌜ r ≡ endedAs code value ⌝ }
 {
-    let sent = [0u8; 8];
+    let sent = fifos::sent::none();
     Outcome {
         code: code,
         value: value,
@@ -65,7 +65,7 @@ pub fn stepped(m: &mut Image, bytes: &[u8]) -> Reply
 {
     let o = outcome_of(m, bytes);
     let code = o.code;
-    let sent = o.sent;
+    let sent = o.sent.bytes;
     let answer = answer_of(m, code, o.value, o.moves, o.acks, sent);
     Reply {
         code: code,

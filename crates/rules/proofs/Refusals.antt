@@ -5,15 +5,17 @@ use mathlib.Core.List.{List, [], _∷_}
 use Prim.Native.Nat.{ℕ, _≤_}
 use native.Mathlib.Omega.{arith}
 use Rattle.rules.specs.State.{State, powerReset}
+use Rattle.rules.specs.Map.{readAt, writtenAt}
 use Rattle.rules.specs.Records.{decode}
 use Rattle.rules.specs.Events.{linesAfter, ticksOf}
-use Rattle.rules.specs.Codes.{numberOf, absent, testValue, shut, noRoom, noBytes, accessCode, refusedValue, isDone, isRefusal}
+use Rattle.rules.specs.Codes.{numberOf, absent, testValue, shut, noRoom, noBytes, accessCode, refusedValue, isDone, isRefusal, mappedCode, mappedValue}
 use Rattle.rules.specs.StepA.{afterA}
 use Rattle.rules.specs.StepB.{reqRises, beyond, atReq}
 use Rattle.rules.specs.Answers.{Stepped}
 use Rattle.rules.specs.Step.{ended, done, access, stepEvent, stepDecoded, step}
 use Rattle.rules.specs.declared.codes.Code.{Code}
 use Rattle.rules.specs.declared.codes.Code.the-variants.{Done, Malformed, Absent, Shut, NoRoom, NoBytes, BeyondLimit, TestValue}
+use Rattle.rules.specs.declared.map.Mapped.the-variants.{Missing}
 use Rattle.rules.specs.declared.records.Lines.{Lines}
 use Rattle.rules.specs.declared.records.Event.{Event}
 use Rattle.rules.specs.declared.records.Event.the-variants.{PowerReset, Write, Read, WordWrite, WordRead, Drive, Ticks}
@@ -135,6 +137,23 @@ refusal-value s (WordWrite w) h = access-value s (WordWrite w) h
 refusal-value s WordRead h = access-value s WordRead h
 refusal-value s (Drive l) h = access-value s (Drive l) h
 refusal-value s (Ticks n) h = access-value s (Ticks n) h
+
+-- an access that finds nothing: the code and the value that the map has for it
+pub record Missed (s : State) (e : Event) : Type 0 where
+  pub code : (access s e) .code ≡ mappedCode Missing
+  pub value : (access s e) .value ≡ mappedValue Missing e
+
+absent-missed : (s : State) (e : Event) → absent e ≡ true → Missed s e
+unfolding access refused
+absent-missed s e h = let c : accessCode s e ≡ Absent = in-order s e .second h in record { code = rw c; value = rw c }
+
+pub read-missed : (s : State) (offset : ℕ) → readAt offset ≡ Missing → Missed s (Read offset)
+unfolding absent
+read-missed s offset h = absent-missed s (Read offset) (rw h)
+
+pub write-missed : (s : State) (offset value : ℕ) → writtenAt offset ≡ Missing → Missed s (Write offset value)
+unfolding absent
+write-missed s offset value h = absent-missed s (Write offset value) (rw h)
 
 -- an event that leaves the lines as they are raises no REQ
 lines-at : (s : State) (e : Event) → (atReq s e) .lines ≡ linesAfter e (s .lines)

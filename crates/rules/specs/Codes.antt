@@ -5,11 +5,13 @@ use mathlib.Core.List.{List, [], _∷_}
 use lib.Dec.{eqb, ltb}
 use lib.ListN.{length}
 use Rattle.rules.specs.State.{State}
-use Rattle.rules.specs.Map.{readAt, writtenAt, isMissing}
+use Rattle.rules.specs.Map.{readAt, writtenAt}
 use Rattle.rules.specs.Events.{writes, valueOf, offered, asked, wide, portWrite, portRead}
 use Rattle.rules.specs.declared.registers.Registers.{Registers}
 use Rattle.rules.specs.declared.codes.Code.{Code}
 use Rattle.rules.specs.declared.codes.Code.the-variants.{Done, Malformed, Absent, Shut, NoRoom, NoBytes, BeyondLimit, TestValue}
+use Rattle.rules.specs.declared.map.Mapped.{Mapped}
+use Rattle.rules.specs.declared.map.Mapped.the-variants.{Present, Missing}
 use Rattle.rules.specs.declared.map.Register.the-variants.{SCSITEST, TEST}
 use Rattle.rules.specs.declared.records.Event.{Event}
 use Rattle.rules.specs.declared.records.Event.the-variants.{PowerReset, Write, Read, WordWrite, WordRead, Drive, Ticks}
@@ -25,11 +27,37 @@ numberOf NoBytes = 5
 numberOf BeyondLimit = 6
 numberOf TestValue = 7
 
+abbrev pub isDone : Code → Bool
+isDone Done = true
+isDone Malformed = false
+isDone Absent = false
+isDone Shut = false
+isDone NoRoom = false
+isDone NoBytes = false
+isDone BeyondLimit = false
+isDone TestValue = false
+
+-- "A refused access (1 to 5, 7)"
+abbrev pub isRefusal : Code → Bool
+isRefusal Done = false
+isRefusal Malformed = true
+isRefusal Absent = true
+isRefusal Shut = true
+isRefusal NoRoom = true
+isRefusal NoBytes = true
+isRefusal BeyondLimit = false
+isRefusal TestValue = true
+
+-- the code of what stands at an offset in one direction: with a register the checks go on, with nothing it is 2
+abbrev pub mappedCode : Mapped → Code
+mappedCode (Present r) = Done
+mappedCode Missing = Absent
+
 -- 2: "register absent in that direction"
 unfoldable pub absent : Event → Bool
 absent PowerReset = false
-absent (Write offset value) = isMissing (writtenAt offset)
-absent (Read offset) = isMissing (readAt offset)
+absent (Write offset value) = isRefusal (mappedCode (writtenAt offset))
+absent (Read offset) = isRefusal (mappedCode (readAt offset))
 absent (WordWrite word) = false
 absent WordRead = false
 absent (Drive lines) = false
@@ -65,7 +93,7 @@ check b c = record { holds = b; code = c }
 -- "Checked in the order 1, 2, 7, 3, then 4 or 5": 1 stands with the decoder (specs/Step.antt)
 abbrev pub checks : State → Event → List Check
 checks s e =
-    check (absent e) Absent
+    check (absent e) (mappedCode Missing)
     ∷ check (testValue e) TestValue
     ∷ check (shut (s .registers) e) Shut
     ∷ check (noRoom s e) NoRoom
@@ -90,23 +118,7 @@ refusedValue WordRead = 0xFFFF
 refusedValue (Drive lines) = 0
 refusedValue (Ticks n) = 0
 
-abbrev pub isDone : Code → Bool
-isDone Done = true
-isDone Malformed = false
-isDone Absent = false
-isDone Shut = false
-isDone NoRoom = false
-isDone NoBytes = false
-isDone BeyondLimit = false
-isDone TestValue = false
-
--- "A refused access (1 to 5, 7)"
-abbrev pub isRefusal : Code → Bool
-isRefusal Done = false
-isRefusal Malformed = true
-isRefusal Absent = true
-isRefusal Shut = true
-isRefusal NoRoom = true
-isRefusal NoBytes = true
-isRefusal BeyondLimit = false
-isRefusal TestValue = true
+-- the value that goes with that code: "FFh on read, 0 on write" where nothing stands; none, 0, where the checks go on
+abbrev pub mappedValue : Mapped → Event → ℕ
+mappedValue (Present r) e = 0
+mappedValue Missing e = refusedValue e

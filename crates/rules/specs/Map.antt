@@ -2,7 +2,6 @@
 -- "344h is write-only", "357h, 359h, 35Ah, 35Bh are absent", "347h, 34Dh, 354h, 355h, 35Ch, 35Fh cannot be written;
 -- 35Eh cannot be read."
 use Prim.Native.Nat.{ℕ}
-use mathlib.Core.Bool.{Bool, true, false, cond}
 use mathlib.Core.List.{List, [], _∷_}
 use lib.ListN.{getD}
 use Rattle.rules.specs.declared.map.Register.{Register}
@@ -67,10 +66,6 @@ readAt offset = getD table offset nothing .read
 unfoldable pub writtenAt : ℕ → Mapped
 unfolding table
 writtenAt offset = getD table offset nothing .written
-
-abbrev pub isMissing : Mapped → Bool
-isMissing (Present r) = false
-isMissing Missing = true
 
 -- the offset of each register
 abbrev pub offsetOf : Register → ℕ

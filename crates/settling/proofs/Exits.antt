@@ -7,7 +7,6 @@ use native.Mathlib.Omega.{arith}
 use native.Mathlib.Nat.{add-zero, add-assoc}
 use lib.Dec.{ltb}
 use lib.ListN.{length}
-use Rattle.rules.specs.Numbers.{padded}
 use Rattle.rules.specs.State.{State, Transfer}
 use Rattle.rules.specs.Seen.{path}
 use Rattle.rules.specs.StepC.{Settling, conditions, canMove, move, canSynchronous, canAsynchronous, canHandshake, handshake, turn, settle, turns, started}
@@ -84,7 +83,7 @@ same-end : (x : List ℕ) (c d : Conditions) (m : List ℕ) (r : Told) → endOf
 same-end x c d m r e w =
     record {
       exact = w .exact ∙ ap (λ (z : Settling). imageOf (withTransfer (z .transfer) (stateAt x))) e;
-      sent = w .sent ∙ ap (λ (z : Settling). padded 8 (z .sent)) e;
+      sent = w .sent ∙ ap (λ (z : Settling). sentOf (z .sent)) e;
       moves = w .moves ∙ ap (λ (z : Settling). z .moves) e;
       acks = w .acks ∙ ap (λ (z : Settling). z .acks) e;
       fewMoves = w .fewMoves;
@@ -92,7 +91,7 @@ same-end x c d m r e w =
     }
 
 module _ (x : List ℕ) (i : IsImage x) where
-  pub none-settles : path ((stateAt x) .registers) ≡ false → Settles x (conditions (stateAt x)) x (record { sent = padded 8 []; moves = 0; acks = 0 })
+  pub none-settles : path ((stateAt x) .registers) ≡ false → Settles x (conditions (stateAt x)) x (record { sent = sentOf []; moves = 0; acks = 0 })
   none-settles p =
       let c : Conditions = conditions (stateAt x) in
       let t : Transfer = (stateAt x) .transfer in
@@ -117,7 +116,7 @@ module _ (x : List ℕ) (i : IsImage x) where
         let f : List ℕ → Bool = λ l. mayShake (stateAt l) in
         ap f (w .left) ∙ moves-leave (stateAt x) (c .outbound) (movable c ((stateAt x) .transfer)) ∙ sym (ap f (i .packed))
 
-    pub moves-settle : mayShake (stateAt x) ≡ false → Settles x (conditions (stateAt x)) m (record { sent = padded 8 []; moves = a; acks = 0 })
+    pub moves-settle : mayShake (stateAt x) ≡ false → Settles x (conditions (stateAt x)) m (record { sent = sentOf []; moves = a; acks = 0 })
     moves-settle h =
         let t : Transfer = (stateAt m) .transfer in
         let q : canHandshake c t ≡ false = ap (λ (d : Conditions). canHandshake d t) e ∙ quiet-after (stateAt x) t (sym (ap mayShake (begun .between .rest)) ∙ as-before ∙ h) in
@@ -142,7 +141,7 @@ module _ (x : List ℕ) (i : IsImage x) where
           let f = i .range .transfer in
           looked m′ r (record {
             exact = v .exact ∙ ap (λ (z : State). imageOf (withTransfer ((endOf m c) .transfer) z)) (begun .between .rest) ∙ ap (λ (z : Settling). imageOf (withTransfer (z .transfer) (stateAt x))) (sym whole);
-            sent = v .sent ∙ ap (λ (z : Settling). padded 8 (z .sent)) (sym whole);
+            sent = v .sent ∙ ap (λ (z : Settling). sentOf (z .sent)) (sym whole);
             moves = all-moves;
             acks = v .acks ∙ ap (λ (z : Settling). z .acks) (sym whole);
             fewMoves = subst (λ (n : ℕ). n ≤ 16) (sym all-moves) (settling-reports c turns (stateAt x) (f .scsi) (f .offset) .moves);

@@ -6,7 +6,6 @@ use mathlib.Core.List.{List, [], _++_}
 use native.Mathlib.Omega.{arith}
 use native.Mathlib.Nat.{le-refl, zero-add}
 use lib.ListN.{length, take}
-use Rattle.rules.specs.Numbers.{padded}
 use Rattle.rules.specs.State.{State, Transfer}
 use Rattle.rules.specs.Ranges.{TransferFits, TransferBytes}
 use Rattle.rules.specs.StepC.{Settling, canMove, move, canHandshake, handshake, turn, settle, turns}
@@ -148,13 +147,13 @@ module _ (c : Conditions) (x m : List ℕ) (a k : ℕ) (v : Sent) (g : Going c x
       let w = room-for-ack c ((stateAt x) .transfer) (shown m a k v) h (g .between .under) in
       (w .0, omega (arith, w .0, w .1, sent-count v (sentView v) (g .between .tidy)))
 
-  pub settles : canHandshake c ((stateAt m) .transfer) ≡ false → Settles x c m (record { sent = v .bytes; moves = a; acks = k })
+  pub settles : canHandshake c ((stateAt m) .transfer) ≡ false → Settles x c m (record { sent = v; moves = a; acks = k })
   settles h =
       let e : shown m a k v ≡ endOf x c = at-end c ((stateAt x) .transfer) (shown m a k v) (g .still) h (g .between .under) in
       let w = reports c ((stateAt x) .transfer) (shown m a k v) (g .between .under) in
       record {
         exact = g .between .image .packed ∙ ap imageOf (g .between .rest) ∙ ap (λ (z : Settling). imageOf (withTransfer (z .transfer) (stateAt x))) e;
-        sent = ap (λ (z : Sent). z .bytes) (g .between .tidy) ∙ ap (λ (z : Settling). padded 8 (z .sent)) e;
+        sent = g .between .tidy ∙ ap (λ (z : Settling). sentOf (z .sent)) e;
         moves = ap (λ (z : Settling). z .moves) e;
         acks = ap (λ (z : Settling). z .acks) e;
         fewMoves = w .moves;

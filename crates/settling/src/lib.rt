@@ -6,9 +6,6 @@ ghost use Rattle.rules.specs.StepC.{conditions, canMove};
 ghost use Rattle.image.specs.Image.{IsImage, stateAt};
 ghost use Rattle.settling.specs.Looks.{lookedAt, mayShake};
 ghost use Rattle.settling.specs.Settles.{Settles};
-use image::bus::matched;
-use image::bus::path;
-use image::bus::synchronous;
 use image::layout::ACK;
 use image::layout::DMACNTRL0;
 use image::layout::Image;
@@ -16,17 +13,21 @@ use image::layout::LINES_CONTROL;
 use image::layout::LINES_DATA;
 use image::layout::OFFSET;
 use image::layout::SXFRCTL0;
+use fifos::sent::Sent;
+use image::bus::matched;
+use image::bus::path;
+use image::bus::synchronous;
 use rules::chip::Conditions;
 
 mod copies;
 mod moves;
 mod shakes;
 
-// What settling tells of: the bytes sent, then zeros, the moves and the ACKs.
+// What settling tells of: the moves, the ACKs, and the bytes sent with their count.
 pub struct Told {
-    pub sent: [u8; 8],
     pub moves: u8,
     pub acks: u8,
+    pub sent: Sent,
 }
 
 // "Handshake, if SCSIEN, path, matched."
@@ -81,7 +82,7 @@ fn shaking(m: &mut Image, c: Conditions, made: u8) -> Told
     requires { ⌜ IsImage (now m) ⌝ }
     requires { ⌜ canMove c ((stateAt (now m)) .transfer) ≡ false ⌝ }
     requires { ⌜ made ≤ 16 ⌝ }
-    ensures { λ r. ⌜ (made ≤ r .moves) × Settles (now (m .entry)) c (now (m .exit)) (record { sent = r .sent; moves = r .moves - made; acks = r .acks }) ⌝ }
+    ensures { λ r. ⌜ (made ≤ r .moves) × Settles (now (m .entry)) c (now (m .exit)) (record { moves = r .moves - made; acks = r .acks; sent = r .sent }) ⌝ }
 {
     let mut moves = made;
     let mut acks = 0u8;
@@ -92,11 +93,10 @@ fn shaking(m: &mut Image, c: Conditions, made: u8) -> Told
         let more = moves::moved(m, c);
         moves = moves + more;
     }
-    let bytes = sent.bytes;
     Told {
-        sent: bytes,
         moves: moves,
         acks: acks,
+        sent: sent,
     }
 }
 
@@ -108,10 +108,11 @@ fn moving(m: &mut Image) -> Told
 {
     let c = conditions_of(m);
     let moves = moves::moved(m, c);
+    let sent = fifos::sent::none();
     Told {
-        sent: [0u8; 8],
         moves: moves,
         acks: 0,
+        sent: sent,
     }
 }
 
@@ -121,10 +122,11 @@ pub fn settle(m: &mut Image) -> Told
     ensures { λ r. ⌜ Settles (now (m .entry)) (conditions (stateAt (now (m .entry)))) (now (m .exit)) r ⌝ }
 {
     if !path(m) {
+        let sent = fifos::sent::none();
         return Told {
-            sent: [0u8; 8],
             moves: 0,
             acks: 0,
+            sent: sent,
         };
     }
     if !possible(m) {

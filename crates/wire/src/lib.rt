@@ -2,13 +2,11 @@
 ghost use mathlib.Core.Path.{_≡_};
 ghost use mathlib.Core.Bool.{cond};
 ghost use Prim.Native.Nat.{_+_, _*_, _%_};
-ghost use lib.ListN.{length};
 ghost use Rattle.rules.specs.Numbers.{one};
 ghost use Rattle.rules.specs.Records.{linesOf, payloadOf, fieldsOf, decode};
 ghost use Rattle.rules.specs.declared.records.Decoded.the-variants.{Well, Ill};
 ghost use Rattle.rules.specs.Codes.{numberOf, refusedValue};
 ghost use Rattle.rules.specs.Answers.{answerBytes};
-ghost use Rattle.wire.specs.Written.{written};
 use laws::bit_of;
 use rules::code_number;
 use rules::codes::Code;
@@ -188,23 +186,4 @@ pub fn answer_bytes(a: Answer) -> [u8; 16]
         sent[6],
         sent[7],
     ]
-}
-
-// Sixteen bytes into a buffer of sixteen.
-fn store(b: [u8; 16], out: &mut [u8])
-    requires { ⌜ length (now out) ≡ 16 ⌝ }
-    ensures { λ _. ⌜ now (out .exit) ≡ b ⌝ }
-{
-    for i in 0..16 {
-        out[i] = b[i];
-    }
-}
-
-// An answer into a lent buffer: sixteen bytes where it has that length, else nothing.
-pub fn write_answer(a: Answer, out: &mut [u8])
-    ensures { λ _. ⌜ now (out .exit) ≡ written a (now (out .entry)) ⌝ }
-{
-    if out.len() == 16 {
-        store(answer_bytes(a), out);
-    }
 }

@@ -4,6 +4,7 @@ use mathlib.Core.Path.{_≡_, _∙_}
 use native.Mathlib.Omega.{arith}
 use borrow.Author.Needs.{needs}
 use lib.ListN.{length, length-replicate}
+use Rattle.adapter.proofs.Waiting.{left-over-small}
 use Rattle.adapter.proofs.main.Statement.{statement}
 use Rattle.adapter.proofs.main.Tie as tie
 
@@ -22,7 +23,7 @@ loop-again c =
     let turned = c .before .before .before .before .before in
     let turn = turned .turn in
     let l = turned .before .before .before .before .before .before .loop in (
-      turn .ensures,
+      rw (turn .ensures .kept) (left-over-small (turn .result .received .held) (turn .result .received .«is_end»)),
       turn .kept .1 .1 .1 .0 ∙ l .inv .1,
       turn .kept .1 .1 .1 .1 .0 ∙ l .inv .2,
       turn .kept .1 .1 .1 .1 .1 .0 ∙ l .inv .3,

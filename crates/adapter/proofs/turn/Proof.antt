@@ -3,7 +3,8 @@ use native.Mathlib.Omega.{arith}
 use borrow.Author.Needs.{needs}
 use lib.ListN.{length-set}
 use lib.Seq.{length-take-le}
-use Rattle.adapter.proofs.Waiting.{left-over-within, left-over-small}
+use Rattle.adapter.proofs.Turning.{turned}
+use Rattle.adapter.proofs.Waiting.{left-over-within}
 use Rattle.adapter.proofs.turn.Statement.{statement}
 use Rattle.adapter.proofs.turn.Tie as tie
 
@@ -44,12 +45,15 @@ same-length c =
     let left-over = c .before .before .before .before .before .before .before .before .before .before .before .before .before in
     left-over .before .before .before .receive .kept .0 ∙ simp length-set refl
 
--- fewer than a record wait
 returns : tie.Need-returns
 returns c =
-    let left-over = c .before .before .before .before .before .before .before .before .before .before .before .before .before in
-    let received = left-over .before .before .before .receive .result in
-    rw (left-over .left-over .ensures) (left-over-small (received .held) (received .«is_end»))
+    let tail = c .before in
+    let sent = tail .before .before in
+    let printed = sent .before .before .before .before .before .before in
+    let left-over = printed .before .before .before .before in
+    let receive = left-over .before .before .before in
+    let start = receive .before .before .before .before .before in
+    turned (start .args .c) (start .args .t2) (start .args .input .now) (receive .receive .ensures) (left-over .left-over .ensures) (printed .print .ensures .0) (printed .print .ensures .1) (tail .tail .ensures) (sent .send .result)
 
 pub turn-spec : {M : Type 1} → statement M
 turn-spec =

@@ -2,17 +2,17 @@ use mathlib.Core.Path.{sym, _∙_}
 use denote.Ref.{now}
 use borrow.Author.Needs.{needs}
 use borrow.Author.Tests.{not-true}
-use Rattle.rules.specs.Numbers.{padded}
 use Rattle.image.specs.Image.{stateAt}
 use Rattle.settling.proofs.Exits.{none-settles, begun, few, shakes-settle}
 use Rattle.settling.proofs.settle.Statement.{statement}
 use Rattle.settling.proofs.settle.Tie as tie
 
 returns : tie.Need-returns
-unfolding padded stateAt
+unfolding stateAt
 returns c =
-    let a = c .before .before .before in
-    none-settles (now (a .args .m)) (a .pre) (sym (c .before .path .ensures) ∙ not-true (c .before .path .result) (c .if1 .taken))
+    let found = c .before .before in
+    let a = found .before .before in
+    rw (c .none .ensures) (none-settles (now (a .args .m)) (a .pre) (sym (found .path .ensures) ∙ not-true (found .path .result) (c .before .if1 .taken)))
 
 moving-requires : tie.Need-moving-requires
 moving-requires c κs =
@@ -39,6 +39,7 @@ pub settle-spec : {M : Type 1} → statement M
 settle-spec =
     tie.close
     (tie.spec
+    (λ c κs. search needs)
     (λ c κs. search needs)
     returns
     (λ c κs. search needs)

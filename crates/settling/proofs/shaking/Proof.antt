@@ -90,9 +90,9 @@ loop-again c =
 
 returns : tie.Need-returns Inv-loop μ-loop
 returns c =
-    let l = c .before .before .before .before in
+    let l = c .before .before .before in
     let a = l .before .before .args in
-    (l .loop .inv .0, settles (a .c) (now (a .m)) (l .loop .m) (l .loop .moves - a .made) (l .loop .acks) (l .loop .sent) (l .loop .inv .1) (sym (c .before .before .can-handshake .ensures) ∙ c .before .if1 .left))
+    (l .loop .inv .0, settles (a .c) (now (a .m)) (l .loop .m) (l .loop .moves - a .made) (l .loop .acks) (l .loop .sent) (l .loop .inv .1) (sym (c .before .can-handshake .ensures) ∙ c .if1 .left))
 
 pub shaking-spec : {M : Type 1} → statement M
 shaking-spec =

@@ -17,4 +17,4 @@ returns c =
     ∙ of-image (withLineBytes l) (withLines l) (lines-image l) (a .m .now) (c .pre)
 
 pub lines-put-spec : {M : Type 1} → statement M
-lines-put-spec = tie.close (tie.spec (λ c. search needs) (λ c. search needs) (λ c. search needs) (λ c. search needs) (λ c. search needs) returns)
+lines-put-spec = tie.close (tie.spec (λ c. search needs) (λ c. search needs) (λ c. search needs) returns)

@@ -21,7 +21,7 @@ returns c =
     let k = t .before in
     let o = k .before .before in
     let s = stateAt (o .args .m .now) in
-    read-refused (o .pre) 0x16 Shut (is-shut (byte-read-tests (o .pre)) (k .shut-to .ensures) (t .if1 .taken)) refl (c .refused-as .ensures)
+    read-refused (o .pre) 0x16 Shut (is-shut (byte-read-tests (o .pre)) (k .shut-to .ensures) (t .if1 .taken)) refl (c .refused .ensures)
 
 returns-2 : tie.Need-returns-2
 returns-2 c =
@@ -30,7 +30,7 @@ returns-2 c =
     let k = l .before in
     let o = k .before .before in
     let s = stateAt (o .args .m .now) in
-    read-refused (o .pre) 0x16 NoBytes (is-short (byte-read-tests (o .pre)) (k .shut-to .ensures) (l .if1 .left) refl (lt-ltb (getD (o .args .m .now) hostCountPlace 0) 1 (t .if2 .taken))) refl (c .refused-as2 .ensures)
+    read-refused (o .pre) 0x16 NoBytes (is-short (byte-read-tests (o .pre)) (k .shut-to .ensures) (l .if1 .left) refl (lt-ltb (getD (o .args .m .now) hostCountPlace 0) 1 (t .if2 .taken))) refl (c .refused2 .ensures)
 
 status-kept-in-requires : tie.Need-status-kept-in-requires
 status-kept-in-requires c κs =

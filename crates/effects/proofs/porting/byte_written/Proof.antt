@@ -5,7 +5,6 @@ use borrow.Author.Needs.{needs}
 use Prim.Native.Nat.{_+_}
 use lib.ListN.{getD}
 use borrow.Author.Tests.{lt-ltb, le-ltb}
-use Rattle.rules.specs.Codes.{refusedValue}
 use Rattle.rules.specs.Events.{ticksOf}
 use Rattle.rules.specs.declared.codes.Code.the-variants.{Shut, NoRoom}
 use Rattle.rules.specs.declared.records.Event.the-variants.{Write, WordRead}
@@ -19,23 +18,23 @@ use Rattle.effects.proofs.porting.byte_written.Statement.{statement}
 use Rattle.effects.proofs.porting.byte_written.Tie as tie
 
 returns : tie.Need-returns
-unfolding refusedValue ticksOf
+unfolding ticksOf
 returns c =
     let t = c .before .before in
     let a = t .before .before in
     let v = a .args .value in
     let s = stateAt (a .args .m .now) in
-    acts-refused s (Write 0x16 v) Shut (is-shut (byte-write-tests (a .pre) v) (t .shut-to .ensures) (c .before .if1 .taken)) refl (a .pre .packed) refl refl (c .refused-as .ensures)
+    acts-refused s (Write 0x16 v) Shut (is-shut (byte-write-tests (a .pre) v) (t .shut-to .ensures) (c .before .if1 .taken)) refl (a .pre .packed) refl (c .refused .ensures)
 
 returns-2 : tie.Need-returns-2
-unfolding refusedValue ticksOf
+unfolding ticksOf
 returns-2 c =
     let l = c .before .before .before in
     let t = l .before in
     let a = t .before .before in
     let v = a .args .value in
     let s = stateAt (a .args .m .now) in
-    acts-refused s (Write 0x16 v) NoRoom (is-full (byte-write-tests (a .pre) v) (t .shut-to .ensures) (l .if1 .left) (lt-ltb 128 (getD (a .args .m .now) hostCountPlace 0 + 1) (omega (arith, c .before .if2 .taken)))) refl (a .pre .packed) refl refl (c .refused-as2 .ensures)
+    acts-refused s (Write 0x16 v) NoRoom (is-full (byte-write-tests (a .pre) v) (t .shut-to .ensures) (l .if1 .left) (lt-ltb 128 (getD (a .args .m .now) hostCountPlace 0 + 1) (omega (arith, c .before .if2 .taken)))) refl (a .pre .packed) refl (c .refused2 .ensures)
 
 host-pushed-requires : tie.Need-host-pushed-requires
 host-pushed-requires c κs = (c .before .before .before .before .before .before .pre, omega (arith, c .before .if2 .left))

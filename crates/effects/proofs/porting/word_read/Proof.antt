@@ -4,7 +4,6 @@ use native.Mathlib.Omega.{arith}
 use borrow.Author.Needs.{needs}
 use lib.ListN.{getD}
 use borrow.Author.Tests.{lt-ltb, le-ltb}
-use Rattle.rules.specs.Codes.{refusedValue}
 use Rattle.rules.specs.Events.{ticksOf}
 use Rattle.rules.specs.Reads.{valueRead}
 use Rattle.rules.specs.declared.codes.Code.the-variants.{Shut, NoBytes}
@@ -19,23 +18,23 @@ use Rattle.effects.proofs.porting.word_read.Statement.{statement}
 use Rattle.effects.proofs.porting.word_read.Tie as tie
 
 returns : tie.Need-returns
-unfolding refusedValue ticksOf
+unfolding ticksOf
 returns c =
     let t = c .before in
     let k = t .before in
     let o = k .before .before in
     let s = stateAt (o .args .m .now) in
-    acts-refused s WordRead Shut (is-shut (word-read-tests (o .pre)) (k .shut-to .ensures) (t .if1 .taken)) refl (o .pre .packed) refl refl (c .refused-as .ensures)
+    acts-refused s WordRead Shut (is-shut (word-read-tests (o .pre)) (k .shut-to .ensures) (t .if1 .taken)) refl (o .pre .packed) refl (c .refused .ensures)
 
 returns-2 : tie.Need-returns-2
-unfolding refusedValue ticksOf
+unfolding ticksOf
 returns-2 c =
     let t = c .before in
     let l = t .before .before in
     let k = l .before in
     let o = k .before .before in
     let s = stateAt (o .args .m .now) in
-    acts-refused s WordRead NoBytes (is-short (word-read-tests (o .pre)) (k .shut-to .ensures) (l .if1 .left) refl (lt-ltb (getD (o .args .m .now) hostCountPlace 0) 2 (t .if2 .taken))) refl (o .pre .packed) refl refl (c .refused-as2 .ensures)
+    acts-refused s WordRead NoBytes (is-short (word-read-tests (o .pre)) (k .shut-to .ensures) (l .if1 .left) refl (lt-ltb (getD (o .args .m .now) hostCountPlace 0) 2 (t .if2 .taken))) refl (o .pre .packed) refl (c .refused2 .ensures)
 
 host-popped-requires : tie.Need-host-popped-requires
 host-popped-requires c κs =

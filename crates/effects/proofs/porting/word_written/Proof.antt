@@ -5,7 +5,6 @@ use borrow.Author.Needs.{needs}
 use Prim.Native.Nat.{_+_}
 use lib.ListN.{getD}
 use borrow.Author.Tests.{lt-ltb, le-ltb}
-use Rattle.rules.specs.Codes.{refusedValue}
 use Rattle.rules.specs.Events.{ticksOf}
 use Rattle.rules.specs.Reads.{valueRead}
 use Rattle.rules.specs.declared.codes.Code.the-variants.{Shut, NoRoom}
@@ -20,23 +19,23 @@ use Rattle.effects.proofs.porting.word_written.Statement.{statement}
 use Rattle.effects.proofs.porting.word_written.Tie as tie
 
 returns : tie.Need-returns
-unfolding refusedValue ticksOf
+unfolding ticksOf
 returns c =
     let t = c .before .before in
     let a = t .before .before in
     let w = a .args .word in
     let s = stateAt (a .args .m .now) in
-    acts-refused s (WordWrite w) Shut (is-shut (word-write-tests (a .pre) w) (t .shut-to .ensures) (c .before .if1 .taken)) refl (a .pre .packed) refl refl (c .refused-as .ensures)
+    acts-refused s (WordWrite w) Shut (is-shut (word-write-tests (a .pre) w) (t .shut-to .ensures) (c .before .if1 .taken)) refl (a .pre .packed) refl (c .refused .ensures)
 
 returns-2 : tie.Need-returns-2
-unfolding refusedValue ticksOf
+unfolding ticksOf
 returns-2 c =
     let l = c .before .before .before in
     let t = l .before in
     let a = t .before .before in
     let w = a .args .word in
     let s = stateAt (a .args .m .now) in
-    acts-refused s (WordWrite w) NoRoom (is-full (word-write-tests (a .pre) w) (t .shut-to .ensures) (l .if1 .left) (lt-ltb 128 (getD (a .args .m .now) hostCountPlace 0 + 2) (omega (arith, c .before .if2 .taken)))) refl (a .pre .packed) refl refl (c .refused-as2 .ensures)
+    acts-refused s (WordWrite w) NoRoom (is-full (word-write-tests (a .pre) w) (t .shut-to .ensures) (l .if1 .left) (lt-ltb 128 (getD (a .args .m .now) hostCountPlace 0 + 2) (omega (arith, c .before .if2 .taken)))) refl (a .pre .packed) refl (c .refused2 .ensures)
 
 word-pushed-requires : tie.Need-word-pushed-requires
 word-pushed-requires c κs = (c .before .before .before .before .before .before .pre, omega (arith, c .before .if2 .left))

@@ -1,7 +1,8 @@
 use Prim.Native.Nat.{ℕ}
 use mathlib.Core.Path.{refl, sym, subst, _∙_}
 use borrow.Author.Needs.{needs}
-use Rattle.rules.specs.declared.codes.Code.the-variants.{Absent}
+use Rattle.rules.specs.Codes.{mappedCode}
+use Rattle.rules.specs.declared.map.Mapped.the-variants.{Missing}
 use Rattle.rules.specs.declared.records.Event.the-variants.{Read}
 use Rattle.image.specs.Image.{stateAt}
 use Rattle.map.proofs.Offsets.{read-offset}
@@ -29,7 +30,7 @@ returns-2 c =
     let t = c .before in
     let a = t .before .before in
     let o = a .before in
-    read-refused (o .pre) (o .args .offset) Absent (read-missing (o .pre) (o .args .offset) (sym (a .register-at .ensures) ∙ t .enum-told .given .1)) refl (c .refused-as .ensures)
+    read-refused (o .pre) (o .args .offset) (mappedCode Missing) (read-missing (o .pre) (o .args .offset) (sym (a .register-at .ensures) ∙ t .enum-told .given .1)) refl (c .absent .ensures)
 
 pub read-in-spec : {M : Type 1} → statement M
 read-in-spec =

@@ -27,7 +27,7 @@ returns-2 c =
     let a = t .before in
     let v = a .args .value in
     let s = stateAt (a .args .m .now) in
-    (acts-refused s (Write 0x0E v) TestValue (test-refused (a .pre) v scsitest (t .if1 .left)) refl (a .pre .packed) refl refl (c .refused-as .ensures), acts-refused s (Write 0x1E v) TestValue (test-refused (a .pre) v test (t .if1 .left)) refl (a .pre .packed) refl refl (c .refused-as .ensures))
+    (acts-refused s (Write 0x0E v) TestValue (test-refused (a .pre) v scsitest (t .if1 .left)) refl (a .pre .packed) refl (c .refused .ensures), acts-refused s (Write 0x1E v) TestValue (test-refused (a .pre) v test (t .if1 .left)) refl (a .pre .packed) refl (c .refused .ensures))
 
 pub test-written-spec : {M : Type 1} → statement M
 test-written-spec = tie.close (tie.spec (λ c κs. search needs) (λ c κs. search needs) returns (λ c κs. search needs) returns-2)
