@@ -12,7 +12,7 @@ use Rattle.rules.specs.Codes.{numberOf, absent, testValue, shut, noRoom,
 use Rattle.rules.specs.StepA.{afterA}
 use Rattle.rules.specs.StepB.{reqRises, beyond, atReq}
 use Rattle.rules.specs.Answers.{Stepped}
-use Rattle.rules.specs.Step.{ended, done, access, stepEvent, stepDecoded, step}
+use Rattle.rules.specs.Step.{ended, done, access, stepEvent, stepDecoded, step, refused}
 use Rattle.rules.specs.declared.codes.Code.{Code}
 use Rattle.rules.specs.declared.codes.Code.the-variants.{Done, Malformed, Absent, Shut, NoRoom, NoBytes, BeyondLimit, TestValue}
 use Rattle.rules.specs.declared.map.Mapped.the-variants.{Missing}
@@ -144,7 +144,7 @@ pub record Missed (s : State) (e : Event) : Type 0 where
   pub value : (access s e) .value ≡ mappedValue Missing e
 
 absent-missed : (s : State) (e : Event) → absent e ≡ true → Missed s e
-unfolding access refused
+unfolding access ended
 absent-missed s e h = let c : accessCode s e ≡ Absent = in-order s e .second h in record { code = rw c; value = rw c }
 
 pub read-missed : (s : State) (offset : ℕ) → readAt offset ≡ Missing → Missed s (Read offset)
