@@ -2,3 +2,4 @@ pub mod EightBits
 pub mod Pastes
 pub mod Phases
 pub mod ReadBack
+pub mod AtPlaces

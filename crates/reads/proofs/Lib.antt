@@ -2,4 +2,3 @@ pub mod AnswerParts
 pub mod Gates
 pub mod LatchByte
 pub mod Unread
-pub mod Held

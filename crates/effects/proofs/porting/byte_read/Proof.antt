@@ -7,7 +7,7 @@ use Rattle.rules.specs.declared.codes.Code.the-variants.{Shut, NoBytes}
 use Rattle.rules.specs.declared.records.Event.the-variants.{Read}
 use Rattle.rules.proofs.Ranges.{bytes-at}
 use Rattle.image.specs.Image.{imageOf, stateAt}
-use Rattle.reads.proofs.Held.{at-first}
+use Rattle.image.proofs.AtPlaces.{at-first}
 use Rattle.effects.proofs.Coding.{byte-read-tests, is-shut, is-short, is-open}
 use Rattle.effects.proofs.ReadLaws.{read-refused, unheld-image, read-acts}
 use Rattle.image.specs.Layout.{hostCountPlace}

@@ -7,6 +7,7 @@ use Rattle.interrupts.proofs.status.raised_in.Statement.{statement}
 use Rattle.interrupts.proofs.status.raised_in.Tie as tie
 
 returns : tie.Need-returns
+unfolding stateAt
 returns c =
     let unpacked = c .before .before in
     let branch = unpacked .before .before in
@@ -16,6 +17,7 @@ returns c =
     status-as (stateAt m) (raised-at m (sym rises) (sym (no-conflict (stateAt m) rises)) (unpacked .status-of .ensures)) (c .status-put .ensures)
 
 returns-2 : tie.Need-returns-2
+unfolding stateAt
 returns-2 c =
     let unpacked = c .before .before in
     let branch = unpacked .before .before in
@@ -26,6 +28,7 @@ returns-2 c =
     status-as (stateAt m) (raised-at m (sym (other .if1 .left) ∙ ready .pio-ready .ensures) (sym (branch .if2 .taken) ∙ conflict .fifo-conflict .ensures) (unpacked .status-of2 .ensures)) (c .status-put2 .ensures)
 
 returns-3 : tie.Need-returns-3
+unfolding stateAt
 returns-3 c =
     let conflict = c .before in
     let other = conflict .before .before in

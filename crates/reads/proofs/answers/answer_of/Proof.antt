@@ -5,25 +5,25 @@ use mathlib.Core.Bool.{Bool, _&&_, cond}
 use lib.ListN.{getD}
 use Rattle.rules.specs.Numbers.{bit, ones, even}
 use Rattle.rules.specs.Seen.{normal, driving, dataDriven, parityDriven}
-use Rattle.rules.specs.State.{Transfer}
+use Rattle.rules.specs.State.{Transfer, State}
 use Rattle.rules.specs.declared.registers.Registers.{Registers}
 use Rattle.rules.specs.declared.records.Lines.{Lines}
 use Rattle.rules.specs.Answers.{answerBytes}
-use Rattle.image.specs.Image.{stateAt, registersAt, linesAt, transferAt}
+use Rattle.image.specs.Image.{stateAt}
 use Rattle.image.specs.Layout.{offsetPlace, scsiseqPlace}
 use Rattle.reads.specs.Answering.{answerWith}
-use Rattle.reads.proofs.Held.{at-scsi, at-host}
+use Rattle.image.proofs.AtPlaces.{at-scsi, at-host}
 use Rattle.reads.proofs.answers.answer_of.Statement.{statement}
 use Rattle.reads.proofs.answers.answer_of.Tie as tie
 
 -- by what was judged of driving
-data-by : (r : Registers) (l : Lines) (t : Transfer) {d : Bool} {b : ℕ} → d ≡ driving r l t → b ≡ cond d (cond (normal r) (t .last) (r .scsidat)) 0 → b ≡ dataDriven r l t
+data-by : (s : State) {d : Bool} {b : ℕ} → d ≡ driving s → b ≡ cond d (cond (normal (s .registers)) (s .transfer .last) (s .registers .scsidat)) 0 → b ≡ dataDriven s
 unfolding dataDriven
-data-by r l t e f = rw (← e) f
+data-by s e f = rw (← e) f
 
-parity-by : (r : Registers) (l : Lines) (t : Transfer) {d p : Bool} {b : ℕ} → d ≡ driving r l t → b ≡ dataDriven r l t → p ≡ (d && even (ones b)) → p ≡ parityDriven r l t
+parity-by : (s : State) {d p : Bool} {b : ℕ} → d ≡ driving s → b ≡ dataDriven s → p ≡ (d && even (ones b)) → p ≡ parityDriven s
 unfolding parityDriven
-parity-by r l t e f h = rw (← e, ← f) h
+parity-by s e f h = rw (← e, ← f) h
 
 -- field by field
 returns : tie.Need-returns
@@ -37,7 +37,7 @@ returns c =
     let s = interrupt .before in
     let m = s .args .m .now in
     let drives = judged .driving .ensures in
-    let driven = data-by (registersAt m) (linesAt m) (transferAt m) drives (byte .byte-driven .ensures) in
+    let driven = data-by (stateAt m) drives (byte .byte-driven .ensures) in
     c .answer-bytes .ensures
     ∙ ap answerBytes
     (λ i.
@@ -48,7 +48,7 @@ returns c =
       moves = s .args .moves;
       driving = drives i;
       rst = bit (getD m scsiseqPlace 0) 0;
-      parity = parity-by (registersAt m) (linesAt m) (transferAt m) drives driven (parity .parity-of .ensures) i;
+      parity = parity-by (stateAt m) drives driven (parity .parity-of .ensures) i;
       value = s .args .value;
       control = control .control-driven .ensures i;
       driven = driven i;

@@ -7,7 +7,7 @@ use Rattle.rules.specs.Numbers.{bit, byteOf}
 use Rattle.rules.specs.Reads.{dmastat}
 use Rattle.image.specs.Image.{stateAt}
 use Rattle.image.specs.Layout.{dmacntrl0Place}
-use Rattle.reads.proofs.Held.{at-host}
+use Rattle.image.proofs.AtPlaces.{at-host}
 use Rattle.reads.proofs.status.dmastat.Statement.{statement}
 use Rattle.reads.proofs.status.dmastat.Tie as tie
 

@@ -1,6 +1,6 @@
 use borrow.Author.Needs.{needs}
 use Rattle.image.specs.Image.{stateAt}
-use Rattle.reads.proofs.Held.{at-identity}
+use Rattle.image.proofs.AtPlaces.{at-identity}
 use Rattle.reads.proofs.status.id_byte.Statement.{statement}
 use Rattle.reads.proofs.status.id_byte.Tie as tie
 

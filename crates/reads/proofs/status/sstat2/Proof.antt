@@ -8,7 +8,7 @@ use Rattle.rules.specs.Numbers.{byteOf}
 use Rattle.rules.specs.Reads.{sstat2}
 use Rattle.image.specs.Image.{stateAt}
 use Rattle.image.specs.Layout.{offsetPlace, scsiCountPlace}
-use Rattle.reads.proofs.Held.{at-scsi}
+use Rattle.image.proofs.AtPlaces.{at-scsi}
 use Rattle.reads.proofs.status.sstat2.Statement.{statement}
 use Rattle.reads.proofs.status.sstat2.Tie as tie
 

@@ -5,7 +5,7 @@ use Rattle.image.specs.Image.{stateAt}
 use Rattle.image.specs.Layout.{offsetPlace}
 use Rattle.registers.specs.OffsetCount.{sstat3Of}
 use Rattle.registers.proofs.OffsetCount.{sstat3-read}
-use Rattle.reads.proofs.Held.{at-scsi}
+use Rattle.image.proofs.AtPlaces.{at-scsi}
 use Rattle.reads.proofs.status.sstat3.Statement.{statement}
 use Rattle.reads.proofs.status.sstat3.Tie as tie
 

@@ -1,6 +1,6 @@
 use borrow.Author.Needs.{needs}
 use native.Mathlib.Omega.{arith}
-use Rattle.reads.proofs.Held.{place-inside, at-place}
+use Rattle.image.proofs.AtPlaces.{place-inside, at-place}
 use Rattle.reads.proofs.status.stack_byte.Statement.{statement}
 use Rattle.reads.proofs.status.stack_byte.Tie as tie
 

@@ -1,6 +1,6 @@
 use borrow.Author.Needs.{needs}
 use native.Mathlib.Omega.{arith}
-use Rattle.reads.proofs.Held.{parts-fit, parts-join}
+use Rattle.image.proofs.AtPlaces.{parts-fit, parts-join}
 use Rattle.reads.proofs.values.dmacntrl1.Statement.{statement}
 use Rattle.reads.proofs.values.dmacntrl1.Tie as tie
 

@@ -1,7 +1,7 @@
 use borrow.Author.Needs.{needs}
 use mathlib.Core.Path.{ap₂, _∙_}
 use Prim.Native.Nat.{ℕ, _+_, _*_}
-use Rattle.reads.proofs.Held.{at-first, at-second}
+use Rattle.image.proofs.AtPlaces.{at-first, at-second}
 use Rattle.reads.proofs.values.oldest_word.Statement.{statement}
 use Rattle.reads.proofs.values.oldest_word.Tie as tie
 

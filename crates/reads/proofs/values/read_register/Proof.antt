@@ -3,7 +3,7 @@ use mathlib.Core.Path.{_∙_}
 use borrow.Author.Needs.{needs}
 use Rattle.rules.specs.Reads.{readOf}
 use Rattle.image.specs.Image.{stateAt}
-use Rattle.reads.proofs.Held.{at-brstcntrl, at-bus, at-counter0, at-counter1, at-counter2, at-dmacntrl0, at-first, at-host, at-scsiseq, at-simode0, at-simode1, at-sxfrctl0, at-sxfrctl1}
+use Rattle.image.proofs.AtPlaces.{at-brstcntrl, at-bus, at-counter0, at-counter1, at-counter2, at-dmacntrl0, at-first, at-host, at-scsiseq, at-simode0, at-simode1, at-sxfrctl0, at-sxfrctl1}
 use Rattle.reads.proofs.Unread.{unread}
 use Rattle.reads.proofs.values.read_register.Statement.{statement}
 use Rattle.reads.proofs.values.read_register.Tie as tie

@@ -109,7 +109,7 @@ module _ (s : State) (r : InRange s) where
   unfolding imageOf
   host-first = behind 0
 
-  host-second : getD (imageOf s) 69 0 ≡ getD (s .transfer .host) 1 0
+  host-second : getD (imageOf s) (hostBytesPlace + 1) 0 ≡ getD (s .transfer .host) 1 0
   unfolding imageOf
   host-second = behind 1
 
@@ -119,49 +119,49 @@ module _ (m : List ℕ) (i : IsImage m) where
   held k e = ap (λ (l : List ℕ). getD l k 0) (i .packed) ∙ e
 
   pub at-scsiseq : getD m scsiseqPlace 0 ≡ scsiseqByte ((stateAt m) .registers .scsiseq)
-  at-scsiseq = held 0 (head-scsiseq (stateAt m))
+  at-scsiseq = held scsiseqPlace (head-scsiseq (stateAt m))
 
   pub at-sxfrctl0 : getD m sxfrctl0Place 0 ≡ sxfrctl0Byte ((stateAt m) .registers .sxfrctl0)
-  at-sxfrctl0 = held 1 (head-sxfrctl0 (stateAt m))
+  at-sxfrctl0 = held sxfrctl0Place (head-sxfrctl0 (stateAt m))
 
   pub at-sxfrctl1 : getD m sxfrctl1Place 0 ≡ sxfrctl1Byte ((stateAt m) .registers .sxfrctl1)
-  at-sxfrctl1 = held 2 (head-sxfrctl1 (stateAt m))
+  at-sxfrctl1 = held sxfrctl1Place (head-sxfrctl1 (stateAt m))
 
   pub at-simode0 : getD m simode0Place 0 ≡ simode0Byte ((stateAt m) .registers .simode0)
-  at-simode0 = held 7 (head-simode0 (stateAt m))
+  at-simode0 = held simode0Place (head-simode0 (stateAt m))
 
   pub at-simode1 : getD m simode1Place 0 ≡ simode1Byte ((stateAt m) .registers .simode1)
-  at-simode1 = held 8 (head-simode1 (stateAt m))
+  at-simode1 = held simode1Place (head-simode1 (stateAt m))
 
   pub at-dmacntrl0 : getD m dmacntrl0Place 0 ≡ dmacntrl0Byte ((stateAt m) .registers .dmacntrl0)
-  at-dmacntrl0 = held 9 (head-dmacntrl0 (stateAt m))
+  at-dmacntrl0 = held dmacntrl0Place (head-dmacntrl0 (stateAt m))
 
   pub at-dmacntrl1 : getD m dmacntrl1Place 0 ≡ dmacntrl1Byte ((stateAt m) .registers .dmacntrl1) 0
-  at-dmacntrl1 = held 10 (head-dmacntrl1 (stateAt m))
+  at-dmacntrl1 = held dmacntrl1Place (head-dmacntrl1 (stateAt m))
 
   pub at-pointer : getD m pointerPlace 0 ≡ (stateAt m) .stack .pointer
-  at-pointer = held 22 (head-pointer (stateAt m))
+  at-pointer = held pointerPlace (head-pointer (stateAt m))
 
   pub at-scsi : getD m scsiCountPlace 0 ≡ length ((stateAt m) .transfer .scsi)
-  at-scsi = held 23 (head-scsi (stateAt m))
+  at-scsi = held scsiCountPlace (head-scsi (stateAt m))
 
   pub at-host : getD m hostCountPlace 0 ≡ length ((stateAt m) .transfer .host)
-  at-host = held 24 (head-host (stateAt m))
+  at-host = held hostCountPlace (head-host (stateAt m))
 
   pub at-counter0 : getD m counterLowPlace 0 ≡ counterByte 0 ((stateAt m) .transfer .counter)
-  at-counter0 = held 25 (head-counter0 (stateAt m))
+  at-counter0 = held counterLowPlace (head-counter0 (stateAt m))
 
   pub at-counter1 : getD m counterMiddlePlace 0 ≡ counterByte 1 ((stateAt m) .transfer .counter)
-  at-counter1 = held 26 (head-counter1 (stateAt m))
+  at-counter1 = held counterMiddlePlace (head-counter1 (stateAt m))
 
   pub at-counter2 : getD m counterHighPlace 0 ≡ counterByte 2 ((stateAt m) .transfer .counter)
-  at-counter2 = held 27 (head-counter2 (stateAt m))
+  at-counter2 = held counterHighPlace (head-counter2 (stateAt m))
 
   pub at-first : getD m hostBytesPlace 0 ≡ getD ((stateAt m) .transfer .host) 0 0
-  at-first = held 68 (host-first (stateAt m) (i .range))
+  at-first = held hostBytesPlace (host-first (stateAt m) (i .range))
 
-  pub at-second : getD m 69 0 ≡ getD ((stateAt m) .transfer .host) sxfrctl0Place 0
-  at-second = held 69 (host-second (stateAt m) (i .range))
+  pub at-second : getD m (hostBytesPlace + 1) 0 ≡ getD ((stateAt m) .transfer .host) sxfrctl0Place 0
+  at-second = held (hostBytesPlace + 1) (host-second (stateAt m) (i .range))
 
   pub at-brstcntrl : getD m brstcntrlPlace 0 ≡ (stateAt m) .registers .brstcntrl
   unfolding stateAt
