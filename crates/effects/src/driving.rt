@@ -6,12 +6,12 @@ ghost use Rattle.rules.specs.declared.records.Event.the-variants.{Drive, Ticks}
 ghost use Rattle.rules.specs.Changed.{withLines};
 ghost use Rattle.image.specs.Image.{IsImage, imageOf, stateAt};
 ghost use Rattle.effects.specs.Acting.{Acts};
+use crate::Acted;
+use crate::done_with;
 use image::layout::Image;
 use image::layout::LINES_CONTROL;
 use image::layout::LINES_DATA;
 use image::layout::LINES_UPPER;
-use crate::Acted;
-use crate::done_with;
 use interrupts::status::status_kept_in;
 
 // Data from bit 17 on, then parity and RST, then the lines in the order of 343h.

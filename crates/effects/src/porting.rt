@@ -6,18 +6,18 @@ ghost use Rattle.rules.specs.declared.records.Event.the-variants.{Write, Read, 
 ghost use Rattle.image.specs.Image.{IsImage, stateAt};
 ghost use Rattle.effects.specs.Acting.{Acts};
 ghost use Rattle.effects.specs.CodeBy.{shutTo};
+use crate::Acted;
+use crate::done_with;
+use crate::refused;
+use datapath::host::host_popped;
+use datapath::host::host_pushed;
+use datapath::host::word_pushed;
 use image::layout::DMACNTRL0;
 use image::layout::HOST_BYTES;
 use image::layout::HOST_COUNT;
 use image::layout::Image;
-use crate::Acted;
-use crate::done_with;
-use crate::refused;
 use interrupts::status::status_kept_in;
 use reads::values::oldest_word;
-use datapath::host::host_popped;
-use datapath::host::host_pushed;
-use datapath::host::word_pushed;
 use rules::codes::Code;
 use rules::records::Event;
 

@@ -3,13 +3,13 @@ ghost use mathlib.Core.Path.{_≡_};
 ghost use Rattle.rules.specs.Step.{step};
 ghost use Rattle.image.specs.Image.{IsImage, stateAt};
 ghost use Rattle.event.specs.Given.{Leaves, Gives, endedAs};
-use image::layout::Image;
-use image::layout::SIMODE0;
-use image::layout::SIMODE1;
 use crate::finishing::finished;
 use crate::opening::opened;
 use edges::since::seen_in;
 use fifos::sent::Sent;
+use image::layout::Image;
+use image::layout::SIMODE0;
+use image::layout::SIMODE1;
 use reads::answers::answer_of;
 use rules::codes::Code;
 
