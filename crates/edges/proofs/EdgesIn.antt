@@ -1,14 +1,14 @@
 -- The edges, as they are found one after the other; `held` is the count of the SCSI FIFO.
 use Prim.Native.Nat.{ℕ, _+_, min}
 use mathlib.Core.Path.{_≡_, ap, _∙_}
-use mathlib.Core.Bool.{Bool, false, not, _&&_, _||_, cond}
+use mathlib.Core.Bool.{Bool, not, _&&_, _||_, cond}
 use mathlib.Core.List.{List}
 use lib.Dec.{eqb, leb, ltb}
 use lib.ListN.{length, getD}
 use Rattle.rules.specs.State.{State}
-use Rattle.rules.specs.Seen.{rstSeen, selSeen, bsySeen, connected, matched, path, synchronous, limit}
-use Rattle.rules.specs.StepB.{parityBad, beyondLimit, lateByte}
-use Rattle.edges.specs.Parts.{registersB}
+use Rattle.rules.specs.Seen.{rstSeen, connected, matched, path, synchronous, limit}
+use Rattle.rules.specs.StepB.{beyondLimit, lateByte}
+use Rattle.edges.specs.Parts.{busyB}
 use Rattle.edges.specs.declared.edges.Edges.{Edges}
 use Rattle.image.specs.Image.{stateAt, IsImage}
 use Rattle.image.specs.Layout.{scsiCountPlace}
@@ -42,9 +42,7 @@ module _ (s : State) (held : ℕ) (rst req : Bool) (ticks : ℕ) where
   lateIn counted = counted && (s .lines .io && eqb (s .transfer .offset) 0 && ltb 0 held)
 
   unfoldable pub quietIn : Bool → ℕ
-  quietIn reset =
-      let r = registersB reset false false (s .registers) in
-      cond (bsySeen r (s .lines) || selSeen r (s .lines)) 0 (min 8 (s .quiet + ticks))
+  quietIn reset = cond (busyB reset s) 0 (min 8 (s .quiet + ticks))
 
   -- the edges by what is found
   abbrev pub edgesBy : Bool → Bool → Bool → Bool → Bool → Bool → ℕ → Edges
@@ -73,8 +71,8 @@ module _ (s : State) (held : ℕ) (rst req : Bool) (ticks : ℕ) where
 
 -- they are those of the state, where the count is that of the bytes
 edges-of : (s : State) (rst req : Bool) (ticks : ℕ) → edgesIn s (length (s .transfer .scsi)) rst req ticks ≡ edgesFrom rst req s ticks
-unfolding edgesFrom rstRisesFrom reqRisesFrom synchronousReqFrom quietFrom parityBad beyondLimit lateByte edgesIn resetIn risesIn badIn callIn beyondIn lateIn quietIn
-edges-of s rst req ticks = rw (inbound-checked (s .registers) (s .lines) (s .transfer), and-not)
+unfolding edgesFrom rstRisesFrom reqRisesFrom synchronousReqFrom quietFrom beyondLimit lateByte edgesIn resetIn risesIn badIn callIn beyondIn lateIn quietIn
+edges-of s rst req ticks = rw (inbound-checked s, and-not)
 
 pub edges-in : (m : List ℕ) (rst req : Bool) (ticks : ℕ) → IsImage m → edgesIn (stateAt m) (getD m scsiCountPlace 0) rst req ticks ≡ edgesFrom rst req (stateAt m) ticks
 edges-in m rst req ticks i =

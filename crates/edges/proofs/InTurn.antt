@@ -6,9 +6,9 @@ use mathlib.Core.List.{List}
 use lib.Dec.{leb}
 use lib.ListN.{getD, set}
 use Rattle.rules.specs.State.{State}
-use Rattle.rules.specs.Seen.{rstSeen, selSeen, bsySeen, connected}
+use Rattle.rules.specs.Seen.{rstSeen, selSeen, bsySeen, connected, matched, synchronous}
 use Rattle.rules.specs.StepB.{parityBad, beyondLimit}
-use Rattle.edges.specs.Parts.{registersB}
+use Rattle.edges.specs.Parts.{busyB}
 use Rattle.rules.specs.Changed.{withQuiet}
 use Rattle.image.specs.Image.{imageOf, stateAt, registersAt, linesAt}
 use Rattle.image.specs.Layout.{quietPlace}
@@ -25,13 +25,13 @@ module _ (m : List ℕ) (rst req : Bool) (ticks : ℕ) where
   unfolding rstRisesFrom stateAt
   no-reset e f = sym e ∙ f
 
-  pub quiet-is : {q : ℕ} → rstRisesFrom rst (stateAt m) ≡ false → q ≡ cond (bsySeen (registersB false false false (registersAt m)) (linesAt m) || selSeen (registersB false false false (registersAt m)) (linesAt m)) 0 (min 8 (getD m quietPlace 0 + ticks)) → q ≡ quietFrom rst (stateAt m) ticks
+  pub quiet-is : {q : ℕ} → rstRisesFrom rst (stateAt m) ≡ false → q ≡ cond (busyB false (stateAt m)) 0 (min 8 (getD m quietPlace 0 + ticks)) → q ≡ quietFrom rst (stateAt m) ticks
   unfolding quietFrom stateAt
   quiet-is a e = rw a e
 
   pub no-error : {b : Bool} → b ≡ ((linesAt m) .req && not req && not (rstSeen (stateAt m)) && (connected (stateAt m) && (linesAt m) .io && (registersAt m) .sxfrctl1 .enspchk && inboundEven (linesAt m))) → b ≡ false → (reqRisesFrom req (stateAt m) && parityBad (stateAt m)) ≡ false
-  unfolding reqRisesFrom parityBad stateAt
-  no-error e f = rw (inbound-checked ((stateAt m) .registers) ((stateAt m) .lines) ((stateAt m) .transfer)) (sym e ∙ f)
+  unfolding reqRisesFrom stateAt
+  no-error e f = rw (inbound-checked (stateAt m)) (sym e ∙ f)
 
   pub not-free : {q : ℕ} → q ≡ quietFrom rst (stateAt m) ticks → (leb 8 q && not (leb 8 (getD m quietPlace 0))) ≡ false → (leb 8 (quietFrom rst (stateAt m) ticks) && not (leb 8 ((stateAt m) .quiet))) ≡ false
   unfolding stateAt
@@ -64,7 +64,7 @@ module _ (m : List ℕ) (packed : m ≡ imageOf (stateAt m)) (was : Bool) (q : �
   -- REQ after them
   module _ (rst req : Bool) (ticks : ℕ) (e : q ≡ quietFrom rst (stateAt m) ticks) where
     kept : (synchronousReqFrom req t && beyondLimit t) ≡ (edgesFrom rst req (stateAt m) ticks) .beyond
-    unfolding edgesFrom synchronousReqFrom reqRisesFrom beyondLimit
+    unfolding edgesFrom synchronousReqFrom reqRisesFrom beyondLimit matched connected synchronous bsySeen selSeen rstSeen
     kept = refl
 
     pub beyond-is : {b : Bool} → b ≡ (synchronousReqFrom req (stateAt n) && beyondLimit (stateAt n)) → b ≡ (edgesFrom rst req (stateAt m) ticks) .beyond

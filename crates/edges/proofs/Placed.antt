@@ -17,7 +17,7 @@ use Rattle.rules.specs.declared.registers.Scsisig.{Scsisig}
 use Rattle.rules.specs.declared.registers.Registers.{Registers}
 use Rattle.rules.specs.declared.chip.Status.{Status}
 use Rattle.edges.specs.declared.edges.Edges.{Edges}
-use Rattle.rules.specs.Changed.{withRegisters, withTransfer, withStatus, withQuiet}
+use Rattle.rules.specs.Changed.{withRegisters, withStatus, withQuiet}
 use Rattle.image.specs.Image.{imageOf, stateAt, IsImage, headOf, scsisigByte, statusOf, statusByte}
 use Rattle.image.proofs.EightBits.{is-one, bit-0, bit-1, bit-2, bit-3, bit-4, bit-5, bit-6, bit-7}
 use Rattle.image.specs.Layout.{ackPlace, offsetPlace, quietPlace, scsiBytesPlace, scsiCountPlace, scsiseqPlace, scsisigPlace, statusPlace, sxfrctl0Place}
@@ -89,7 +89,7 @@ set-past [] q i b = ap (λ (j : ℕ). set q j b) (zero-add i)
 set-past (a ∷ x) q i b = rw (suc-add (length x) i, set-past x q i b)
 
 -- the count of another list, with its bytes
-scsi-image : (s : State) (b : ℕ) → set (headOf s ++ padded 8 (s .transfer .scsi ++ (b ∷ [])) ++ s .stack .bytes ++ padded 128 (s .transfer .host)) 23 (length (s .transfer .scsi ++ (b ∷ []))) ≡ imageOf (withTransfer (storedB true b (s .transfer)) s)
+scsi-image : (s : State) (b : ℕ) → set (headOf s ++ padded 8 (s .transfer .scsi ++ (b ∷ [])) ++ s .stack .bytes ++ padded 128 (s .transfer .host)) 23 (length (s .transfer .scsi ++ (b ∷ []))) ≡ imageOf (storedB true b s)
 unfolding imageOf
 scsi-image s b = refl
 
@@ -115,7 +115,7 @@ scsi-stored s b h =
     ∙ ap (λ (y : List ℕ). headOf s ++ y) (set-append-left (padded 8 l) z (length l) b k ∙ ap (λ (p : List ℕ). p ++ z) (padded-push 8 l b h))
     ∙ sym (regroup (headOf s) (padded 8 (l ++ (b ∷ []))) (s .stack .bytes) (padded 128 (s .transfer .host)))
 
-pub scsi-set : (s : State) (b : ℕ) → length (s .transfer .scsi) < 8 → set (set (imageOf s) (scsiBytesPlace + length (s .transfer .scsi)) b) scsiCountPlace (length (s .transfer .scsi) + 1) ≡ imageOf (withTransfer (storedB true b (s .transfer)) s)
+pub scsi-set : (s : State) (b : ℕ) → length (s .transfer .scsi) < 8 → set (set (imageOf s) (scsiBytesPlace + length (s .transfer .scsi)) b) scsiCountPlace (length (s .transfer .scsi) + 1) ≡ imageOf (storedB true b s)
 scsi-set s b h =
     let l : List ℕ = s .transfer .scsi in
     let n : length l + 1 ≡ length (l ++ (b ∷ [])) = sym (length-append l (b ∷ [])) in
@@ -129,22 +129,22 @@ storedBehind held b m = set (set m (scsiBytesPlace + held) b) scsiCountPlace (he
 pub held-of : (m : List ℕ) (s : State) → m ≡ imageOf s → getD m scsiCountPlace 0 ≡ length (s .transfer .scsi)
 held-of m s e = ap (λ (l : List ℕ). getD l 23 0) e ∙ held-at s
 
-pub scsi-placed : {m n : List ℕ} (b : ℕ) (s : State) → getD m scsiCountPlace 0 < 8 → m ≡ imageOf s → n ≡ byteStored b m → n ≡ imageOf (withTransfer (storedB true b (s .transfer)) s)
+pub scsi-placed : {m n : List ℕ} (b : ℕ) (s : State) → getD m scsiCountPlace 0 < 8 → m ≡ imageOf s → n ≡ byteStored b m → n ≡ imageOf (storedB true b s)
 scsi-placed {m} b s h e f =
     let k : getD m scsiCountPlace 0 ≡ length (s .transfer .scsi) = held-of m s e in
     let i : length (s .transfer .scsi) < 8 = rw k at h in
     f ∙ ap (λ (j : ℕ). storedBehind j b m) k ∙ ap (λ (l : List ℕ). storedBehind (length (s .transfer .scsi)) b l) e ∙ scsi-set s b i
 
-stored-placed : {m n : List ℕ} (stored : Bool) (b : ℕ) (s : State) → (stored ≡ true → getD m scsiCountPlace 0 < 8) → m ≡ imageOf s → n ≡ cond stored (byteStored b m) m → n ≡ imageOf (withTransfer (storedB stored b (s .transfer)) s)
+stored-placed : {m n : List ℕ} (stored : Bool) (b : ℕ) (s : State) → (stored ≡ true → getD m scsiCountPlace 0 < 8) → m ≡ imageOf s → n ≡ cond stored (byteStored b m) m → n ≡ imageOf (storedB stored b s)
 stored-placed true b s h e f = scsi-placed b s (h refl) e f
 stored-placed false b s h e f = f ∙ e
 
 -- the offset and the automatic ACK in their places
-counted-set : (s : State) (zeroed counted released : Bool) {o : ℕ} {k : Bool} → o ≡ s .transfer .offset → k ≡ s .transfer .ack → set (set (imageOf s) offsetPlace (cond zeroed 0 (cond counted (o + 1) o))) ackPlace (one (not released && k)) ≡ imageOf (withTransfer (countedB zeroed counted released (s .transfer)) s)
+counted-set : (s : State) (zeroed counted released : Bool) {o : ℕ} {k : Bool} → o ≡ s .transfer .offset → k ≡ s .transfer .ack → set (set (imageOf s) offsetPlace (cond zeroed 0 (cond counted (o + 1) o))) ackPlace (one (not released && k)) ≡ imageOf (countedB zeroed counted released s)
 unfolding imageOf
 counted-set s zeroed counted released a b = rw (a, b)
 
-pub counted-placed : {m n : List ℕ} (zeroed counted released : Bool) (s : State) → m ≡ imageOf s → n ≡ countStored zeroed counted released m → n ≡ imageOf (withTransfer (countedB zeroed counted released (s .transfer)) s)
+pub counted-placed : {m n : List ℕ} (zeroed counted released : Bool) (s : State) → m ≡ imageOf s → n ≡ countStored zeroed counted released m → n ≡ imageOf (countedB zeroed counted released s)
 counted-placed zeroed counted released s e f =
     f ∙ ap (λ (l : List ℕ). countStored zeroed counted released l) e
     ∙ counted-set s zeroed counted released (offset-at s) (ack-at s)
@@ -152,19 +152,19 @@ counted-placed zeroed counted released s e f =
 pub offset-of : (m : List ℕ) (s : State) → m ≡ imageOf s → getD m offsetPlace 0 ≡ s .transfer .offset
 offset-of m s e = ap (λ (l : List ℕ). getD l 17 0) e ∙ offset-at s
 
-pub room-after : {m : List ℕ} (stored : Bool) (b : ℕ) (s : State) → m ≡ imageOf (withTransfer (storedB stored b (s .transfer)) s) → s .transfer .offset < 8 → getD m offsetPlace 0 < 8
-room-after {m} stored b s e h = rw (offset-of m (withTransfer (storedB stored b (s .transfer)) s) e) h
+pub room-after : {m : List ℕ} (stored : Bool) (b : ℕ) (s : State) → m ≡ imageOf (storedB stored b s) → s .transfer .offset < 8 → getD m offsetPlace 0 < 8
+room-after {m} stored b s e h = rw (offset-of m (storedB stored b s) e) h
 
 -- the SCSI FIFO's part of the data path: a byte that is stored has a place
 module _ {g : Edges} {m : List ℕ} (byte : ℕ) (i : IsImage m) (room : Room g ((stateAt m) .transfer)) where
   pub place-of : g .stored ≡ true → getD m scsiCountPlace 0 < 8
   place-of h = rw (held-of m (stateAt m) (i .packed)) (room .stored h)
 
-  pub path-stored : {n : List ℕ} → n ≡ cond (g .stored) (byteStored byte m) m → n ≡ imageOf (withTransfer (storedB (g .stored) byte ((stateAt m) .transfer)) (stateAt m))
+  pub path-stored : {n : List ℕ} → n ≡ cond (g .stored) (byteStored byte m) m → n ≡ imageOf (storedB (g .stored) byte (stateAt m))
   path-stored = stored-placed (g .stored) byte (stateAt m) place-of (i .packed)
 
 -- both parts of the data path
-pub path-parts : (g : Edges) (byte : ℕ) (s : State) → imageOf (withTransfer (countedB (g .rstrises || g .free) (g .counted) (g .reqfalls || g .rstrises || g .free) (storedB (g .stored) byte (s .transfer))) s) ≡ imageOf (withTransfer (transferB g byte (s .transfer)) s)
+pub path-parts : (g : Edges) (byte : ℕ) (s : State) → imageOf (countedB (g .rstrises || g .free) (g .counted) (g .reqfalls || g .rstrises || g .free) (storedB (g .stored) byte s)) ≡ imageOf (transferB g byte s)
 unfolding transferB
 path-parts g byte s = refl
 
@@ -181,11 +181,11 @@ unfolding imageOf
 quiet-placed m n s e = ap (λ (l : List ℕ). set l 20 n) e
 
 -- one REQ more, and the automatic ACK released
-pub offset-placed : (m : List ℕ) (s : State) {offset : ℕ} → offset ≡ s .transfer .offset → m ≡ imageOf s → set m offsetPlace (offset + 1) ≡ imageOf (withTransfer (countedB false true false (s .transfer)) s)
+pub offset-placed : (m : List ℕ) (s : State) {offset : ℕ} → offset ≡ s .transfer .offset → m ≡ imageOf s → set m offsetPlace (offset + 1) ≡ imageOf (countedB false true false s)
 unfolding imageOf
 offset-placed m s e f = rw e (ap (λ (l : List ℕ). set l 17 (s .transfer .offset + 1)) f)
 
-pub ack-placed : (m : List ℕ) (s : State) → m ≡ imageOf s → set m ackPlace 0 ≡ imageOf (withTransfer (countedB false false true (s .transfer)) s)
+pub ack-placed : (m : List ℕ) (s : State) → m ≡ imageOf s → set m ackPlace 0 ≡ imageOf (countedB false false true s)
 unfolding imageOf
 ack-placed m s e = ap (λ (l : List ℕ). set l 18 0) e
 

@@ -10,7 +10,7 @@ use borrow.Author.Tests.{eqb-true, leb-true, leb-false, lt-leb}
 use Rattle.rules.specs.State.{State}
 use Rattle.rules.specs.Seen.{rstSeen, selSeen, bsySeen, reqSeen, connected, matched, mismatched, path, synchronous}
 use Rattle.rules.specs.StepB.{parityBad, beyondLimit, lateByte}
-use Rattle.edges.specs.Parts.{registersB, transferB, statusB}
+use Rattle.edges.specs.Parts.{registersB, busyB, transferB, statusB}
 use Rattle.edges.specs.declared.edges.Edges.{Edges}
 use Rattle.rules.proofs.Logic.{left-true, right-true}
 use Rattle.rules.specs.Changed.{withQuiet}
@@ -23,15 +23,15 @@ use Rattle.edges.proofs.Placed.{quiet-placed}
 
 -- what is read off the four bytes of an array is what is seen there
 pub rst-of : (m : List ℕ) → rstOf (seenOf m) ≡ rstSeen (stateAt m)
-unfolding rstOf rstSeen
+unfolding rstOf rstSeen stateAt
 rst-of m = refl
 
 pub req-of : (m : List ℕ) → reqOf (seenOf m) ≡ reqSeen (stateAt m)
-unfolding reqOf
+unfolding reqOf stateAt
 req-of m = refl
 
 pub mismatched-of : (m : List ℕ) → mismatchedOf (seenOf m) ≡ mismatched (stateAt m)
-unfolding mismatchedOf mismatched connected matched bsySeen selSeen rstSeen
+unfolding mismatchedOf mismatched connected matched bsySeen selSeen rstSeen stateAt
 mismatched-of m = refl
 
 -- the four bytes, compared
@@ -87,9 +87,9 @@ module _ (s : State) where
 
   still : edgesFrom rst req s 0 ≡ stillAt (quietFrom rst s 0)
   unfolding edgesFrom rstRisesFrom reqRisesFrom synchronousReqFrom quietFrom
-  still = rw (and-not rst, rises-not req (not rst), and-not req, stays (bsySeen (registersB false false false (s .registers)) (s .lines) || selSeen (registersB false false false (s .registers)) (s .lines)) (s .quiet))
+  still = rw (and-not rst, rises-not req (not rst), and-not req, stays (busyB false s) (s .quiet))
 
-  quiet-still : cond (bsySeen (registersB false false false (s .registers)) (s .lines) || selSeen (registersB false false false (s .registers)) (s .lines)) 0 (min 8 (s .quiet + 0)) ≡ quietFrom rst s 0
+  quiet-still : cond (busyB false s) 0 (min 8 (s .quiet + 0)) ≡ quietFrom rst s 0
   unfolding quietFrom rstRisesFrom
   quiet-still = rw (and-not rst)
 
@@ -122,7 +122,7 @@ module _ (m : List ℕ) (g : IsImage m) (x : Seen) (e : seenOf m ≡ x) {ticks :
   pub seen-beyond : false ≡ (edgesFrom (rstOf x) (reqOf x) s ticks) .beyond
   seen-beyond = still-beyond s ∙ (λ i. (edgesFrom (rst-is i) (req-is i) s (sym t i)) .beyond)
 
-  pub seen-applied : {q : ℕ} → q ≡ cond (bsySeen (registersB false false false (registersAt m)) (linesAt m) || selSeen (registersB false false false (registersAt m)) (linesAt m)) 0 (min 8 (getD m quietPlace 0 + 0)) → set m quietPlace q ≡ imageOf (appliedFrom (edgesFrom (rstOf x) (reqOf x) s ticks) (mismatchedOf x) s)
+  pub seen-applied : {q : ℕ} → q ≡ cond (busyB false (stateAt m)) 0 (min 8 (getD m quietPlace 0 + 0)) → set m quietPlace q ≡ imageOf (appliedFrom (edgesFrom (rstOf x) (reqOf x) s ticks) (mismatchedOf x) s)
   unfolding stateAt
   seen-applied {q} h =
       quiet-placed m q s (g .packed)
@@ -131,7 +131,7 @@ module _ (m : List ℕ) (g : IsImage m) (x : Seen) (e : seenOf m ≡ x) {ticks :
       ∙ (λ i. imageOf (appliedFrom (edgesFrom (rst-is i) (req-is i) s (sym t i)) (mismatched-is i) s))
 
   -- quiet ticks that nothing adds to stay
-  pub seen-unchanged : (bsySeen (registersB false false false (registersAt m)) (linesAt m) || selSeen (registersB false false false (registersAt m)) (linesAt m)) ≡ false → m ≡ imageOf (appliedFrom (edgesFrom (rstOf x) (reqOf x) s ticks) (mismatchedOf x) s)
+  pub seen-unchanged : busyB false (stateAt m) ≡ false → m ≡ imageOf (appliedFrom (edgesFrom (rstOf x) (reqOf x) s ticks) (mismatchedOf x) s)
   unfolding stateAt
   seen-unchanged h =
       let q : getD m quietPlace 0 ≡ min 8 (getD m quietPlace 0 + 0) = omega (arith, g .range .quiet) in

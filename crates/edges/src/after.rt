@@ -183,7 +183,7 @@ fn counted_in(m: &mut Image, zeroed: bool, counted: bool, released: bool)
 pub fn path_in(m: &mut Image, g: Edges, byte: u8)
     requires { ⌜ IsImage (now m) ⌝ }
     requires { ⌜ Room g ((stateAt (now m)) .transfer) ⌝ }
-    ensures { λ _. ⌜ now (m .exit) ≡ imageOf (withTransfer (transferB g byte ((stateAt (now (m .entry))) .transfer)) (stateAt (now (m .entry)))) ⌝ }
+    ensures { λ _. ⌜ now (m .exit) ≡ imageOf (transferB g byte (stateAt (now (m .entry)))) ⌝ }
 {
     scsi_in(m, g.stored, byte);
     counted_in(

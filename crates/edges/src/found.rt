@@ -4,8 +4,8 @@ ghost use mathlib.Core.Bool.{false, not, _&&_, _||_, cond};
 ghost use Prim.Native.Nat.{_+_, min};
 ghost use lib.Dec.{eqb, leb, ltb};
 ghost use lib.ListN.{getD};
-ghost use Rattle.rules.specs.Seen.{rstSeen, selSeen, bsySeen, connected, matched, path, synchronous, limit};
-ghost use Rattle.edges.specs.Parts.{registersB};
+ghost use Rattle.rules.specs.Seen.{rstSeen, connected, matched, path, synchronous, limit};
+ghost use Rattle.edges.specs.Parts.{busyB};
 ghost use Rattle.image.specs.Image.{registersAt, linesAt, stateAt};
 ghost use Rattle.edges.specs.Inbound.{inboundEven};
 ghost use Rattle.image.specs.Layout.{offsetPlace, quietPlace, scsiCountPlace};
@@ -123,7 +123,7 @@ pub fn late_byte(m: &Image, counted: bool) -> bool
 
 // BSY or SEL seen, where a bus reset in the same event has taken the chip's own away.
 pub fn busy(m: &Image, reset: bool) -> bool
-    ensures { λ b. ⌜ b ≡ (bsySeen (registersB reset false false (registersAt (now (m .entry)))) (linesAt (now (m .entry))) || selSeen (registersB reset false false (registersAt (now (m .entry)))) (linesAt (now (m .entry)))) ⌝ }
+    ensures { λ b. ⌜ b ≡ busyB reset (stateAt (now (m .entry))) ⌝ }
 {
     (((m[LINES_CONTROL] >> 2) % 2 == 1) | (!reset & ((m[SCSISIG] >> 2) % 2 == 1)))
         | (((m[LINES_CONTROL] >> 3) % 2 == 1) | (!reset & ((m[SCSISIG] >> 3) % 2 == 1)))
@@ -139,7 +139,7 @@ fn added(quiet: u8, ticks: u32) -> u8
 
 // "Quiet ticks: 0 if BSY or SEL is seen, else ticks add"
 pub fn quiet_after(m: &Image, reset: bool, ticks: u32) -> u8
-    ensures { λ n. ⌜ n ≡ cond (bsySeen (registersB reset false false (registersAt (now (m .entry)))) (linesAt (now (m .entry))) || selSeen (registersB reset false false (registersAt (now (m .entry)))) (linesAt (now (m .entry)))) 0 (min 8 (getD (now (m .entry)) quietPlace 0 + ticks)) ⌝ }
+    ensures { λ n. ⌜ n ≡ cond (busyB reset (stateAt (now (m .entry)))) 0 (min 8 (getD (now (m .entry)) quietPlace 0 + ticks)) ⌝ }
 {
     if busy(m, reset) {
         0

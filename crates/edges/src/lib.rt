@@ -7,6 +7,7 @@ ghost use Rattle.edges.specs.Room.{Room};
 use crate::edges::Edges;
 use crate::last::Before;
 use image::bus::mismatched;
+use image::bus::req_seen;
 use image::bus::rst_seen;
 use image::layout::Image;
 use image::layout::LINES_CONTROL;
@@ -27,7 +28,7 @@ fn last_seen(m: &Image) -> Before
 {
     Before {
         rst: rst_seen(m),
-        req: (m[LINES_CONTROL] >> 1) % 2 == 1,
+        req: req_seen(m),
         mismatched: mismatched(m),
     }
 }

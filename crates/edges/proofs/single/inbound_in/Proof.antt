@@ -3,7 +3,6 @@ use borrow.Author.Tests.{not-true, not-false}
 use mathlib.Core.Path.{refl, ap, sym, _∙_}
 use mathlib.Core.Bool.{true, false}
 use lib.ListN.{getD}
-use Rattle.rules.specs.Changed.{withTransfer}
 use Rattle.image.specs.Image.{imageOf, stateAt}
 use Rattle.image.specs.Layout.{dataPlace}
 use Rattle.edges.specs.Parts.{storedB}
@@ -34,7 +33,7 @@ returns-2 c =
     let m = start .args .m .now in
     let e = start .pre .0 in
     let io = not-false _ (seen .if1 .left) in
-    let t = withTransfer (storedB true (getD m dataPlace 0) ((stateAt m) .transfer)) (stateAt m) in
+    let t = storedB true (getD m dataPlace 0) (stateAt m) in
     status-placed (raisedB false false true) t (scsi-placed (getD m dataPlace 0) (stateAt m) (start .pre .1 io) e (stored .byte-stored .ensures)) (c .raised-in .ensures)
     ∙ ap imageOf (inbound-as (stateAt m) io (sym (tested .if2 .taken) ∙ late-at m (stateAt m) e io) refl)
 
