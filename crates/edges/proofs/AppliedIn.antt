@@ -10,28 +10,12 @@ use Rattle.edges.specs.Parts.{registersB, transferB, statusB}
 use Rattle.rules.specs.declared.chip.Status.{Status}
 use Rattle.edges.specs.declared.edges.Edges.{Edges}
 use Rattle.rules.specs.Changed.{withRegisters, withStatus, withQuiet}
-use Rattle.image.specs.Image.{imageOf, stateAt, linesAt}
+use Rattle.image.specs.Image.{imageOf, stateAt}
 use Rattle.image.specs.Layout.{quietPlace}
-use Rattle.image.proofs.EightBits.{bit-0, bit-1, bit-2, bit-3, bit-4, bit-5, bit-6, bit-7}
+use Rattle.image.proofs.ReadBack.{lines-back}
 use Rattle.edges.specs.From.{appliedFrom}
 use Rattle.edges.specs.Stored.{registersStored, statusStored}
 use Rattle.edges.proofs.Placed.{seq-at, sig-at, registers-placed, status-placed, quiet-placed}
-
-lines-at : (s : State) → linesAt (imageOf s) ≡ s .lines
-unfolding imageOf
-lines-at s =
-    rw (
-      bit-1 false false false false false false (s .lines .parity) (s .lines .rst),
-      bit-0 false false false false false false (s .lines .parity) (s .lines .rst),
-      bit-7 (s .lines .cd) (s .lines .io) (s .lines .msg) (s .lines .atn) (s .lines .sel) (s .lines .bsy) (s .lines .req) (s .lines .ack),
-      bit-6 (s .lines .cd) (s .lines .io) (s .lines .msg) (s .lines .atn) (s .lines .sel) (s .lines .bsy) (s .lines .req) (s .lines .ack),
-      bit-5 (s .lines .cd) (s .lines .io) (s .lines .msg) (s .lines .atn) (s .lines .sel) (s .lines .bsy) (s .lines .req) (s .lines .ack),
-      bit-4 (s .lines .cd) (s .lines .io) (s .lines .msg) (s .lines .atn) (s .lines .sel) (s .lines .bsy) (s .lines .req) (s .lines .ack),
-      bit-3 (s .lines .cd) (s .lines .io) (s .lines .msg) (s .lines .atn) (s .lines .sel) (s .lines .bsy) (s .lines .req) (s .lines .ack),
-      bit-2 (s .lines .cd) (s .lines .io) (s .lines .msg) (s .lines .atn) (s .lines .sel) (s .lines .bsy) (s .lines .req) (s .lines .ack),
-      bit-1 (s .lines .cd) (s .lines .io) (s .lines .msg) (s .lines .atn) (s .lines .sel) (s .lines .bsy) (s .lines .req) (s .lines .ack),
-      bit-0 (s .lines .cd) (s .lines .io) (s .lines .msg) (s .lines .atn) (s .lines .sel) (s .lines .bsy) (s .lines .req) (s .lines .ack),
-    )
 
 -- a mismatch is seen by 340h, 343h and the lines alone
 mismatched-by : (s t : State) → s .registers .scsisig ≡ t .registers .scsisig → s .registers .scsiseq ≡ t .registers .scsiseq → s .lines ≡ t .lines → mismatched s ≡ mismatched t
@@ -41,7 +25,7 @@ mismatched-by s t a b d = rw (a, b, d)
 pub mismatched-at : (m : List ℕ) (s : State) → m ≡ imageOf s → mismatched (stateAt m) ≡ mismatched s
 unfolding stateAt
 mismatched-at m s e =
-    ap (λ (l : List ℕ). mismatched (stateAt l)) e ∙ mismatched-by (stateAt (imageOf s)) s (sig-at s) (seq-at s) (lines-at s)
+    ap (λ (l : List ℕ). mismatched (stateAt l)) e ∙ mismatched-by (stateAt (imageOf s)) s (sig-at s) (seq-at s) (lines-back s)
 
 -- the byte counts where it is stored
 stored-byte : (stored : Bool) (x : ℕ) (l : List ℕ) → cond stored (l ++ (cond stored x 0 ∷ [])) l ≡ cond stored (l ++ (x ∷ [])) l

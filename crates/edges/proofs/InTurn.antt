@@ -1,7 +1,7 @@
 -- The frequent parts in turn, where the tests for what is rare have failed.
 use Prim.Native.Nat.{ℕ, _+_, min}
 use mathlib.Core.Path.{_≡_, refl, ap, sym, _∙_}
-use mathlib.Core.Bool.{Bool, false, not, _&&_, _||_, cond}
+use mathlib.Core.Bool.{Bool, false, not, _&&_, cond}
 use mathlib.Core.List.{List}
 use lib.Dec.{leb}
 use lib.ListN.{getD, set}
@@ -16,7 +16,7 @@ use Rattle.edges.specs.Inbound.{inboundEven}
 use Rattle.edges.specs.From.{rstRisesFrom, reqRisesFrom, synchronousReqFrom, quietFrom, edgesFrom, appliedFrom}
 use Rattle.edges.specs.Frequent.{phaseB, reqB}
 use Rattle.edges.proofs.Laws.{inbound-checked}
-use Rattle.edges.proofs.Placed.{quiet-placed, quiet-back, status-back, packed-as}
+use Rattle.edges.proofs.Placed.{quiet-placed, quiet-kept, status-kept, packed-as}
 use Rattle.edges.proofs.Frequent.{frequent}
 
 -- the tests, of the state
@@ -40,7 +40,7 @@ module _ (m : List ℕ) (rst req : Bool) (ticks : ℕ) where
 -- the quiet ticks and the phase
 module _ (m : List ℕ) (packed : m ≡ imageOf (stateAt m)) (q : ℕ) where
   quiet-again : stateAt (imageOf (withQuiet q (stateAt m))) ≡ withQuiet q (stateAt m)
-  quiet-again = quiet-back (stateAt m) q (ap stateAt (sym packed))
+  quiet-again = quiet-kept (stateAt m) q (ap stateAt (sym packed))
 
   quieted-back : stateAt (set m quietPlace q) ≡ withQuiet q (stateAt m)
   quieted-back = ap stateAt (quiet-placed m q (stateAt m) packed) ∙ quiet-again
@@ -56,7 +56,7 @@ module _ (m : List ℕ) (packed : m ≡ imageOf (stateAt m)) (was : Bool) (q : �
   phased = then ∙ ap (λ (x : State). imageOf (phaseB was x)) (quieted-back m packed q)
 
   phased-back : stateAt n ≡ t
-  phased-back = ap stateAt phased ∙ status-back (withQuiet q (stateAt m)) _ (quiet-again m packed q)
+  phased-back = ap stateAt phased ∙ status-kept (withQuiet q (stateAt m)) _ (quiet-again m packed q)
 
   pub phased-packed : n ≡ imageOf (stateAt n)
   phased-packed = packed-as t phased phased-back

@@ -1,20 +1,19 @@
 -- Where the bytes seen are the same and no tick came, B changes the quiet ticks alone.
 use Prim.Native.Nat.{ℕ, _+_, _<_, min}
 use mathlib.Core.Path.{_≡_, refl, ap, sym, _∙_}
-use mathlib.Core.Bool.{Bool, true, false, not, _&&_, _||_, cond}
+use mathlib.Core.Bool.{Bool, true, false, not, _&&_, cond}
 use mathlib.Core.List.{List}
 use native.Mathlib.Omega.{arith}
 use lib.Dec.{eqb, leb}
 use lib.ListN.{getD, set}
-use borrow.Author.Tests.{eqb-true, leb-true, leb-false, lt-leb}
+use borrow.Author.Tests.{eqb-true, leb-false, lt-leb}
 use Rattle.rules.specs.State.{State}
-use Rattle.rules.specs.Seen.{rstSeen, selSeen, bsySeen, reqSeen, connected, matched, mismatched, path, synchronous}
-use Rattle.rules.specs.StepB.{parityBad, beyondLimit, lateByte}
+use Rattle.rules.specs.Seen.{rstSeen, selSeen, bsySeen, reqSeen, connected, matched, mismatched}
 use Rattle.edges.specs.Parts.{registersB, busyB, transferB, statusB}
 use Rattle.edges.specs.declared.edges.Edges.{Edges}
 use Rattle.rules.proofs.Logic.{left-true, right-true}
 use Rattle.rules.specs.Changed.{withQuiet}
-use Rattle.image.specs.Image.{imageOf, stateAt, registersAt, linesAt, IsImage}
+use Rattle.image.specs.Image.{imageOf, stateAt, IsImage}
 use Rattle.image.specs.Layout.{controlPlace, quietPlace, scsiseqPlace, scsisigPlace, upperPlace}
 use Rattle.edges.specs.declared.last.Seen.{Seen}
 use Rattle.edges.specs.From.{rstRisesFrom, reqRisesFrom, synchronousReqFrom, quietFrom, edgesFrom, appliedFrom}

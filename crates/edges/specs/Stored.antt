@@ -17,7 +17,7 @@ registersStored reset bad free m =
     let q = scsiseqOf (getD m scsiseqPlace 0) in
     let x = sxfrctl0Of (getD m sxfrctl0Place 0) in
     let g = scsisigOf false (getD m scsisigPlace 0) in
-    set (set (set m scsiseqPlace (scsiseqByte (scsiseqB reset q))) sxfrctl0Place (sxfrctl0Byte (sxfrctl0B reset x))) 3
+    set (set (set m scsiseqPlace (scsiseqByte (scsiseqB reset q))) sxfrctl0Place (sxfrctl0Byte (sxfrctl0B reset x))) scsisigPlace
     (scsisigByte (scsisigB (reset || free) (bad && q .enautoatnp) g))
 
 -- a byte behind those of the SCSI FIFO

@@ -1,7 +1,7 @@
 // Step B, "Edges, in this order", over the chip in the bytes of one array.
 ghost use mathlib.Core.Path.{_≡_};
 ghost use Rattle.rules.specs.Seen.{rstSeen, reqSeen, mismatched};
-ghost use Rattle.image.specs.Image.{registersAt, linesAt, imageOf, stateAt, IsImage};
+ghost use Rattle.image.specs.Image.{imageOf, stateAt, IsImage};
 ghost use Rattle.edges.specs.From.{edgesFrom, appliedFrom};
 ghost use Rattle.edges.specs.Room.{Room};
 use crate::edges::Edges;
