@@ -6,14 +6,15 @@ use mathlib.Core.List.{List, [], _∷_, _++_}
 use lib.Dec.{eqb, leb, ltb}
 use lib.ListN.{getD}
 use Rattle.rules.specs.State.{State}
-use Rattle.rules.specs.Seen.{rstSeen, selSeen, bsySeen, ioSeen, connected, matched, mismatched, synchronous, limit, dataSeen}
+use Rattle.rules.specs.Seen.{rstSeen, selSeen, bsySeen, ioSeen, reqSeen, connected, matched, mismatched, synchronous, dataSeen}
 use Rattle.rules.specs.StepB.{parityBad, beyondLimit, lateByte}
 use Rattle.edges.specs.declared.edges.Edges.{Edges}
 use Rattle.rules.specs.Changed.{withStatus, withQuiet}
-use Rattle.image.specs.Image.{imageOf, stateAt, registersAt, linesAt}
+use Rattle.image.specs.Image.{imageOf, stateAt}
 use Rattle.image.specs.Layout.{offsetPlace, scsiCountPlace}
 use Rattle.edges.specs.From.{rstRisesFrom, reqRisesFrom, synchronousReqFrom, quietFrom, edgesFrom, appliedFrom}
 use Rattle.edges.specs.Parts.{registersB, transferB, statusB, storedB, countedB}
+use Rattle.edges.specs.Tests.{pastLimit}
 use Rattle.edges.specs.Frequent.{raisedB, phaseB, inboundB, callB, risenB, releasedB, initB, reqB}
 use Rattle.edges.proofs.Laws.{inbound-data}
 use Rattle.edges.proofs.Placed.{offset-of, held-of}
@@ -59,15 +60,15 @@ pub phase-as : (was : Bool) (s : State) {seen : Bool} → was ≡ false → seen
 phase-as was s e f = rw (e, f, and-true)
 
 -- an inbound byte, where IO is seen
-pub late-at : (m : List ℕ) (s : State) → m ≡ imageOf s → s .lines .io ≡ true → (eqb (getD m offsetPlace 0) 0 && ltb 0 (getD m scsiCountPlace 0)) ≡ lateByte s
+pub late-at : (m : List ℕ) (s : State) → m ≡ imageOf s → ioSeen s ≡ true → (eqb (getD m offsetPlace 0) 0 && ltb 0 (getD m scsiCountPlace 0)) ≡ lateByte s
 unfolding lateByte
 late-at m s e h = rw (h, offset-of m s e, held-of m s e)
 
-pub inbound-none : (s : State) → s .lines .io ≡ false → inboundB true s ≡ s
+pub inbound-none : (s : State) → ioSeen s ≡ false → inboundB true s ≡ s
 unfolding lateByte
 inbound-none s h = rw h
 
-pub inbound-as : (s : State) {late : Bool} {byte : ℕ} → s .lines .io ≡ true → late ≡ lateByte s → byte ≡ s .lines .byte → withStatus (raisedB false false late (s .status)) (storedB true byte s) ≡ inboundB true s
+pub inbound-as : (s : State) {late : Bool} {byte : ℕ} → ioSeen s ≡ true → late ≡ lateByte s → byte ≡ s .lines .byte → withStatus (raisedB false false late (s .status)) (storedB true byte s) ≡ inboundB true s
 inbound-as s h f g =
     λ i. withStatus (raisedB false false (f i) (s .status)) (storedB (sym h i) (g i) s)
 
@@ -78,15 +79,14 @@ uncounted call s e = rw e
 pub counted : (call : Bool) (s : State) → (call && not (beyondLimit s)) ≡ true → countedB false true false (inboundB true s) ≡ risenB call s
 counted call s e = rw e
 
-pub beyond-at : (m : List ℕ) → m ≡ imageOf (stateAt m) → {b : Bool} → b ≡ (leb (limit (registersAt m)) (getD m offsetPlace 0) || ((linesAt m) .io && leb 8 (getD m scsiCountPlace 0))) → b ≡ beyondLimit (stateAt m)
-unfolding beyondLimit stateAt
-beyond-at m e f =
-    f ∙ ap (λ (n : ℕ). leb (limit (registersAt m)) (getD m offsetPlace 0) || ((linesAt m) .io && leb 8 n)) (held-of m (stateAt m) e)
+pub beyond-at : (m : List ℕ) → m ≡ imageOf (stateAt m) → {b : Bool} → b ≡ pastLimit (getD m scsiCountPlace 0) (stateAt m) → b ≡ beyondLimit (stateAt m)
+unfolding beyondLimit
+beyond-at m e f = f ∙ ap (λ (n : ℕ). pastLimit n (stateAt m)) (held-of m (stateAt m) e)
 
 -- REQ, by what it was and is
 module _ (was : Bool) (s : State) where
   abbrev fallsFrom : Bool
-  fallsFrom = was && not (s .lines .req)
+  fallsFrom = was && not (reqSeen s)
 
   pub req-kept : reqRisesFrom was s ≡ false → fallsFrom ≡ false → reqB was s ≡ s
   unfolding reqB synchronousReqFrom

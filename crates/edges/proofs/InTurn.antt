@@ -1,18 +1,18 @@
 -- The frequent parts in turn, where the tests for what is rare have failed.
-use Prim.Native.Nat.{ℕ, _+_, min}
+use Prim.Native.Nat.{ℕ}
 use mathlib.Core.Path.{_≡_, refl, ap, sym, _∙_}
-use mathlib.Core.Bool.{Bool, false, not, _&&_, cond}
+use mathlib.Core.Bool.{Bool, false, not, _&&_}
 use mathlib.Core.List.{List}
 use lib.Dec.{leb}
 use lib.ListN.{getD, set}
 use Rattle.rules.specs.State.{State}
 use Rattle.rules.specs.Seen.{rstSeen, selSeen, bsySeen, connected, matched, synchronous}
-use Rattle.rules.specs.StepB.{parityBad, beyondLimit}
-use Rattle.edges.specs.Parts.{busyB}
+use Rattle.rules.specs.StepB.{parityBad, beyondLimit, quietAfter}
+use Rattle.edges.specs.Parts.{resetB}
 use Rattle.rules.specs.Changed.{withQuiet}
-use Rattle.image.specs.Image.{imageOf, stateAt, registersAt, linesAt}
+use Rattle.image.specs.Image.{imageOf, stateAt}
 use Rattle.image.specs.Layout.{quietPlace}
-use Rattle.edges.specs.Inbound.{inboundEven}
+use Rattle.edges.specs.Tests.{inboundBad}
 use Rattle.edges.specs.From.{rstRisesFrom, reqRisesFrom, synchronousReqFrom, quietFrom, edgesFrom, appliedFrom}
 use Rattle.edges.specs.Frequent.{phaseB, reqB}
 use Rattle.edges.proofs.Laws.{inbound-checked}
@@ -21,16 +21,11 @@ use Rattle.edges.proofs.Frequent.{frequent}
 
 -- the tests, of the state
 module _ (m : List ℕ) (rst req : Bool) (ticks : ℕ) where
-  pub no-reset : {b : Bool} → b ≡ (rstSeen (stateAt m) && not rst) → b ≡ false → rstRisesFrom rst (stateAt m) ≡ false
-  unfolding rstRisesFrom stateAt
-  no-reset e f = sym e ∙ f
-
-  pub quiet-is : {q : ℕ} → rstRisesFrom rst (stateAt m) ≡ false → q ≡ cond (busyB false (stateAt m)) 0 (min 8 (getD m quietPlace 0 + ticks)) → q ≡ quietFrom rst (stateAt m) ticks
-  unfolding quietFrom stateAt
+  pub quiet-is : {q : ℕ} → rstRisesFrom rst (stateAt m) ≡ false → q ≡ quietAfter ticks (resetB false (stateAt m)) → q ≡ quietFrom rst (stateAt m) ticks
+  unfolding quietFrom
   quiet-is a e = rw a e
 
-  pub no-error : {b : Bool} → b ≡ ((linesAt m) .req && not req && not (rstSeen (stateAt m)) && (connected (stateAt m) && (linesAt m) .io && (registersAt m) .sxfrctl1 .enspchk && inboundEven (linesAt m))) → b ≡ false → (reqRisesFrom req (stateAt m) && parityBad (stateAt m)) ≡ false
-  unfolding reqRisesFrom stateAt
+  pub no-error : {b : Bool} → b ≡ (reqRisesFrom req (stateAt m) && inboundBad (stateAt m)) → b ≡ false → (reqRisesFrom req (stateAt m) && parityBad (stateAt m)) ≡ false
   no-error e f = rw (inbound-checked (stateAt m)) (sym e ∙ f)
 
   pub not-free : {q : ℕ} → q ≡ quietFrom rst (stateAt m) ticks → (leb 8 q && not (leb 8 (getD m quietPlace 0))) ≡ false → (leb 8 (quietFrom rst (stateAt m) ticks) && not (leb 8 ((stateAt m) .quiet))) ≡ false

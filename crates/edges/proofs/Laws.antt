@@ -7,13 +7,16 @@ use Rattle.rules.specs.Seen.{bsySeen, selSeen, ioSeen, connected, driving, data
 use Rattle.rules.specs.StepB.{parityBad}
 use Rattle.edges.specs.Parts.{registersB, busyB}
 use Rattle.rules.specs.declared.registers.Registers.{Registers}
-use Rattle.edges.specs.Inbound.{inboundEven}
+use Rattle.edges.specs.Tests.{inboundEven, inboundBad}
 
--- what is seen of BSY and SEL once a bus reset has zeroed 343h
-pub busy-after : (reset : Bool) (s : State) → ((s .lines .bsy || (not reset && s .registers .scsisig .bsyo)) || (s .lines .sel || (not reset && s .registers .scsisig .selo))) ≡ busyB reset s
+-- what is seen of BSY and SEL once a bus reset has zeroed 343h, and without one
+pub busy-reset : (s : State) → (s .lines .bsy || s .lines .sel) ≡ busyB true s
 unfolding bsySeen selSeen registersB
-busy-after true s = refl
-busy-after false s = refl
+busy-reset s = rw (or-false (s .lines .bsy), or-false (s .lines .sel))
+
+pub busy-unreset : (s : State) → (bsySeen s || selSeen s) ≡ busyB false s
+unfolding registersB
+busy-unreset s = refl
 
 -- without a bus reset, a parity error and bus free the registers stay
 pub registers-kept : (reset bad free : Bool) (r : Registers) → (reset || bad || free) ≡ false → r ≡ registersB reset bad free r
@@ -53,7 +56,7 @@ module _ (s : State) (io : ioSeen s ≡ true) where
   unfolding paritySeen parityDriven
   inbound-parity = rw (not-driving, or-false)
 
-  inbound-even : parityEven s ≡ inboundEven (s .lines)
+  inbound-even : parityEven s ≡ inboundEven s
   unfolding parityEven
   inbound-even = rw (inbound-data, inbound-parity)
 
@@ -63,10 +66,10 @@ counts-where a true e p q f = ap (λ (b : Bool). a && true && e && b) (f refl)
 counts-where a false e p q f = rw and-false
 
 -- where parity is checked, only the data of others count
-pub inbound-checked : (s : State) → parityBad s ≡ (connected s && ioSeen s && s .registers .sxfrctl1 .enspchk && inboundEven (s .lines))
+pub inbound-checked : (s : State) → parityBad s ≡ inboundBad s
 unfolding parityBad
 inbound-checked s =
-    counts-where (connected s) (ioSeen s) (s .registers .sxfrctl1 .enspchk) (parityEven s) (inboundEven (s .lines)) (inbound-even s)
+    counts-where (connected s) (ioSeen s) (s .registers .sxfrctl1 .enspchk) (parityEven s) (inboundEven s) (inbound-even s)
 
 -- REQ as it was and is
 pub same-falls : (now was : Bool) → Bool·beq now was ≡ true → (was && not now) ≡ false

@@ -9,6 +9,7 @@ use lib.ListN.{getD, set}
 use borrow.Author.Tests.{eqb-true, leb-false, lt-leb}
 use Rattle.rules.specs.State.{State}
 use Rattle.rules.specs.Seen.{rstSeen, selSeen, bsySeen, reqSeen, connected, matched, mismatched}
+use Rattle.rules.specs.StepB.{quietAfter}
 use Rattle.edges.specs.Parts.{registersB, busyB, transferB, statusB}
 use Rattle.edges.specs.declared.edges.Edges.{Edges}
 use Rattle.rules.proofs.Logic.{left-true, right-true}
@@ -85,12 +86,17 @@ module _ (s : State) where
   req = reqSeen s
 
   still : edgesFrom rst req s 0 ≡ stillAt (quietFrom rst s 0)
-  unfolding edgesFrom rstRisesFrom reqRisesFrom synchronousReqFrom quietFrom
+  unfolding edgesFrom rstRisesFrom reqRisesFrom synchronousReqFrom quietFrom quietAfter
   still = rw (and-not rst, rises-not req (not rst), and-not req, stays (busyB false s) (s .quiet))
 
-  quiet-still : cond (busyB false s) 0 (min 8 (s .quiet + 0)) ≡ quietFrom rst s 0
-  unfolding quietFrom rstRisesFrom
-  quiet-still = rw (and-not rst)
+  -- BSY or SEL seen zeroes the quiet ticks; those that nothing adds to stay
+  quiet-zeroed : busyB false s ≡ true → 0 ≡ quietFrom rst s 0
+  unfolding quietFrom quietAfter rstRisesFrom
+  quiet-zeroed b = rw (and-not rst, b)
+
+  quiet-left : busyB false s ≡ false → s .quiet ≡ min 8 (s .quiet + 0) → s .quiet ≡ quietFrom rst s 0
+  unfolding quietFrom quietAfter rstRisesFrom
+  quiet-left b e = rw (and-not rst, b) e
 
   unmoved : (q : ℕ) → appliedFrom (stillAt q) (mismatched s) s ≡ withQuiet q s
   unfolding appliedFrom registersB transferB statusB
@@ -107,34 +113,24 @@ module _ (m : List ℕ) (g : IsImage m) (x : Seen) (e : seenOf m ≡ x) {ticks :
   s = stateAt m
 
   rst-is : rstSeen s ≡ rstOf x
-  unfolding stateAt
   rst-is = sym (rst-of m) ∙ ap rstOf e
 
   req-is : reqSeen s ≡ reqOf x
-  unfolding stateAt
   req-is = sym (req-of m) ∙ ap reqOf e
 
   mismatched-is : mismatched s ≡ mismatchedOf x
-  unfolding stateAt
   mismatched-is = sym (mismatched-of m) ∙ ap mismatchedOf e
 
   pub seen-beyond : false ≡ (edgesFrom (rstOf x) (reqOf x) s ticks) .beyond
   seen-beyond = still-beyond s ∙ (λ i. (edgesFrom (rst-is i) (req-is i) s (sym t i)) .beyond)
 
-  pub seen-applied : {q : ℕ} → q ≡ cond (busyB false (stateAt m)) 0 (min 8 (getD m quietPlace 0 + 0)) → set m quietPlace q ≡ imageOf (appliedFrom (edgesFrom (rstOf x) (reqOf x) s ticks) (mismatchedOf x) s)
-  unfolding stateAt
-  seen-applied {q} h =
-      quiet-placed m q s (g .packed)
-      ∙ ap (λ (n : ℕ). imageOf (withQuiet n s)) (h ∙ quiet-still s)
-      ∙ ap imageOf (sym (still-applied s))
+  applied-is : {q : ℕ} → q ≡ quietFrom (rstSeen s) s 0 → imageOf (withQuiet q s) ≡ imageOf (appliedFrom (edgesFrom (rstOf x) (reqOf x) s ticks) (mismatchedOf x) s)
+  applied-is h =
+      ap (λ (n : ℕ). imageOf (withQuiet n s)) h ∙ ap imageOf (sym (still-applied s))
       ∙ (λ i. imageOf (appliedFrom (edgesFrom (rst-is i) (req-is i) s (sym t i)) (mismatched-is i) s))
 
-  -- quiet ticks that nothing adds to stay
-  pub seen-unchanged : busyB false (stateAt m) ≡ false → m ≡ imageOf (appliedFrom (edgesFrom (rstOf x) (reqOf x) s ticks) (mismatchedOf x) s)
-  unfolding stateAt
-  seen-unchanged h =
-      let q : getD m quietPlace 0 ≡ min 8 (getD m quietPlace 0 + 0) = omega (arith, g .range .quiet) in
-      g .packed
-      ∙ ap (λ (n : ℕ). imageOf (withQuiet n s)) (rw h q ∙ quiet-still s)
-      ∙ ap imageOf (sym (still-applied s))
-      ∙ (λ i. imageOf (appliedFrom (edgesFrom (rst-is i) (req-is i) s (sym t i)) (mismatched-is i) s))
+  pub seen-quieted : busyB false s ≡ true → set m quietPlace 0 ≡ imageOf (appliedFrom (edgesFrom (rstOf x) (reqOf x) s ticks) (mismatchedOf x) s)
+  seen-quieted b = quiet-placed m 0 s (g .packed) ∙ applied-is (quiet-zeroed s b)
+
+  pub seen-unchanged : busyB false s ≡ false → m ≡ imageOf (appliedFrom (edgesFrom (rstOf x) (reqOf x) s ticks) (mismatchedOf x) s)
+  seen-unchanged b = g .packed ∙ applied-is (quiet-left s b (omega (arith, g .range .quiet)))

@@ -1,11 +1,11 @@
 -- Step B, where of the state at the end of the last event only RST, REQ and the mismatch that were seen are known.
-use Prim.Native.Nat.{ℕ, _+_, min}
-use mathlib.Core.Bool.{Bool, not, _&&_, cond}
+use Prim.Native.Nat.{ℕ}
+use mathlib.Core.Bool.{Bool, not, _&&_}
 use Rattle.rules.specs.State.{State}
 use Rattle.rules.specs.Seen.{rstSeen, ioSeen, reqSeen, matched, mismatched, path, synchronous, dataSeen}
-use Rattle.rules.specs.StepB.{parityBad, beyondLimit, lateByte}
+use Rattle.rules.specs.StepB.{parityBad, beyondLimit, lateByte, quietAfter}
 use Rattle.rules.specs.Changed.{withRegisters, withStatus, withQuiet}
-use Rattle.edges.specs.Parts.{busyB, registersB, transferB, statusB}
+use Rattle.edges.specs.Parts.{resetB, registersB, transferB, statusB}
 use Rattle.edges.specs.declared.edges.Edges.{Edges}
 use lib.Dec.{leb}
 
@@ -21,7 +21,7 @@ synchronousReqFrom req now =
     && synchronous now
 
 unfoldable pub quietFrom : Bool → State → ℕ → ℕ
-quietFrom rst now ticks = cond (busyB (rstRisesFrom rst now) now) 0 (min 8 (now .quiet + ticks))
+quietFrom rst now ticks = quietAfter ticks (resetB (rstRisesFrom rst now) now)
 
 -- the edges, by RST and REQ as they were
 unfoldable pub edgesFrom : Bool → Bool → State → ℕ → Edges

@@ -1,5 +1,5 @@
 pub mod Room
-pub mod Inbound
+pub mod Tests
 pub mod From
 pub mod Parts
 pub mod Stored
