@@ -6,7 +6,7 @@ use mathlib.Core.List.{List, [], _∷_, _++_}
 use lib.ListN.{set}
 use Rattle.rules.specs.State.{State}
 use Rattle.rules.specs.Seen.{rstSeen, selSeen, bsySeen, connected, matched, mismatched, dataSeen}
-use Rattle.edges.specs.Parts.{registersB, transferB, statusB}
+use Rattle.edges.specs.Components.{registersB, transferB, statusB}
 use Rattle.rules.specs.declared.chip.Status.{Status}
 use Rattle.edges.specs.declared.edges.Edges.{Edges}
 use Rattle.rules.specs.Changed.{withRegisters, withStatus, withQuiet}

@@ -8,7 +8,7 @@ use lib.ListN.{length, getD}
 use Rattle.rules.specs.State.{State}
 use Rattle.rules.specs.Seen.{ioSeen, reqSeen, matched, path, synchronous}
 use Rattle.rules.specs.StepB.{beyondLimit, lateByte, quietAfter}
-use Rattle.edges.specs.Parts.{resetB}
+use Rattle.edges.specs.Components.{resetB}
 use Rattle.edges.specs.declared.edges.Edges.{Edges}
 use Rattle.image.specs.Image.{stateAt, IsImage}
 use Rattle.image.specs.Layout.{scsiCountPlace}

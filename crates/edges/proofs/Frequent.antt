@@ -13,7 +13,7 @@ use Rattle.rules.specs.Changed.{withStatus, withQuiet}
 use Rattle.image.specs.Image.{imageOf, stateAt}
 use Rattle.image.specs.Layout.{offsetPlace, scsiCountPlace}
 use Rattle.edges.specs.From.{rstRisesFrom, reqRisesFrom, synchronousReqFrom, quietFrom, edgesFrom, appliedFrom}
-use Rattle.edges.specs.Parts.{registersB, transferB, statusB, storedB, countedB}
+use Rattle.edges.specs.Components.{registersB, transferB, statusB, storedB, countedB}
 use Rattle.edges.specs.Tests.{pastLimit}
 use Rattle.edges.specs.Frequent.{raisedB, phaseB, inboundB, callB, risenB, releasedB, initB, reqB}
 use Rattle.edges.proofs.Laws.{inbound-data}

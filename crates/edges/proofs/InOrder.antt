@@ -12,7 +12,7 @@ use Rattle.rules.specs.Changed.{withStatus, withQuiet}
 use Rattle.rules.specs.declared.chip.Status.{Status}
 use Rattle.rules.proofs.InOrder.{falls-keeps}
 use Rattle.rules.proofs.Logic.{never, left-true, cond-case}
-use Rattle.edges.specs.Parts.{registersB, transferB, statusB}
+use Rattle.edges.specs.Components.{registersB, transferB, statusB}
 use Rattle.edges.specs.From.{rstRisesFrom, reqRisesFrom, synchronousReqFrom, quietFrom, edgesFrom, appliedFrom}
 use Rattle.edges.specs.declared.edges.Edges.{Edges}
 

@@ -8,7 +8,7 @@ use lib.ListN.{getD, set}
 use Rattle.rules.specs.State.{State}
 use Rattle.rules.specs.Seen.{rstSeen, selSeen, bsySeen, connected, matched, synchronous}
 use Rattle.rules.specs.StepB.{parityBad, beyondLimit, quietAfter}
-use Rattle.edges.specs.Parts.{resetB}
+use Rattle.edges.specs.Components.{resetB}
 use Rattle.rules.specs.Changed.{withQuiet}
 use Rattle.image.specs.Image.{imageOf, stateAt}
 use Rattle.image.specs.Layout.{quietPlace}

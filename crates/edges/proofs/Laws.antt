@@ -5,7 +5,7 @@ use lib.Bits.{or-zero-r}
 use Rattle.rules.specs.State.{State}
 use Rattle.rules.specs.Seen.{bsySeen, selSeen, ioSeen, connected, driving, dataDriven, dataSeen, parityDriven, paritySeen, parityEven}
 use Rattle.rules.specs.StepB.{parityBad}
-use Rattle.edges.specs.Parts.{registersB, busyB}
+use Rattle.edges.specs.Components.{registersB, busyB}
 use Rattle.rules.specs.declared.registers.Registers.{Registers}
 use Rattle.edges.specs.Tests.{inboundEven, inboundBad}
 

@@ -23,7 +23,7 @@ use Rattle.image.proofs.EightBits.{is-one}
 use Rattle.image.proofs.ReadBack.{scsiseq-back, sxfrctl0-back, scsisig-back, status-back}
 use Rattle.image.specs.Layout.{ackPlace, offsetPlace, quietPlace, scsiBytesPlace, scsiCountPlace, scsiseqPlace, scsisigPlace, statusPlace, sxfrctl0Place}
 use Rattle.laws.proofs.Lists.{padded-push, padded-length}
-use Rattle.edges.specs.Parts.{scsiseqB, sxfrctl0B, scsisigB, registersB, transferB, storedB, countedB}
+use Rattle.edges.specs.Components.{scsiseqB, sxfrctl0B, scsisigB, registersB, transferB, storedB, countedB}
 use Rattle.edges.specs.Room.{Room}
 use Rattle.edges.specs.Stored.{registersStored, byteStored, countStored, statusStored}
 use Rattle.edges.proofs.Laws.{registers-kept}

@@ -10,7 +10,7 @@ use borrow.Author.Tests.{eqb-true, leb-false, lt-leb}
 use Rattle.rules.specs.State.{State}
 use Rattle.rules.specs.Seen.{rstSeen, selSeen, bsySeen, reqSeen, connected, matched, mismatched}
 use Rattle.rules.specs.StepB.{quietAfter}
-use Rattle.edges.specs.Parts.{registersB, busyB, transferB, statusB}
+use Rattle.edges.specs.Components.{registersB, busyB, transferB, statusB}
 use Rattle.edges.specs.declared.edges.Edges.{Edges}
 use Rattle.rules.proofs.Logic.{left-true, right-true}
 use Rattle.rules.specs.Changed.{withQuiet}

@@ -6,7 +6,7 @@ use Rattle.rules.specs.StepB.{beyondLimit, lateByte}
 use Rattle.rules.specs.declared.chip.Status.{Status}
 use Rattle.rules.specs.Changed.{withStatus}
 use Rattle.edges.specs.From.{reqRisesFrom, synchronousReqFrom}
-use Rattle.edges.specs.Parts.{storedB, countedB}
+use Rattle.edges.specs.Components.{storedB, countedB}
 
 -- PHASECHG, REQINIT and SYNCERR set
 abbrev pub raisedB : Bool → Bool → Bool → Status → Status

@@ -5,7 +5,7 @@ use Rattle.rules.specs.State.{State}
 use Rattle.rules.specs.Seen.{rstSeen, ioSeen, reqSeen, matched, mismatched, path, synchronous, dataSeen}
 use Rattle.rules.specs.StepB.{parityBad, beyondLimit, lateByte, quietAfter}
 use Rattle.rules.specs.Changed.{withRegisters, withStatus, withQuiet}
-use Rattle.edges.specs.Parts.{resetB, registersB, transferB, statusB}
+use Rattle.edges.specs.Components.{resetB, registersB, transferB, statusB}
 use Rattle.edges.specs.declared.edges.Edges.{Edges}
 use lib.Dec.{leb}
 

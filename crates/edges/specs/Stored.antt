@@ -7,7 +7,7 @@ use lib.ListN.{getD, set}
 use Rattle.rules.specs.Numbers.{one}
 use Rattle.rules.specs.Registers.{scsiseqOf, scsiseqByte, sxfrctl0Of, sxfrctl0Byte, scsisigOf}
 use Rattle.rules.specs.declared.chip.Status.{Status}
-use Rattle.edges.specs.Parts.{scsiseqB, sxfrctl0B, scsisigB}
+use Rattle.edges.specs.Components.{scsiseqB, sxfrctl0B, scsisigB}
 use Rattle.image.specs.Image.{scsisigByte, statusOf, statusByte}
 use Rattle.image.specs.Layout.{ackPlace, offsetPlace, scsiBytesPlace, scsiCountPlace, scsiseqPlace, scsisigPlace, statusPlace, sxfrctl0Place}
 

@@ -7,7 +7,7 @@ ghost use Rattle.rules.specs.Numbers.{one};
 ghost use Rattle.rules.specs.Registers.{scsiseqOf, scsiseqByte, sxfrctl0Of, sxfrctl0Byte, scsisigOf};
 ghost use Rattle.rules.specs.Seen.{dataSeen};
 ghost use Rattle.image.specs.Image.{imageOf, stateAt, IsImage, scsisigByte, statusOf, statusByte};
-ghost use Rattle.edges.specs.Parts.{scsiseqB, sxfrctl0B, scsisigB, transferB, statusB};
+ghost use Rattle.edges.specs.Components.{scsiseqB, sxfrctl0B, scsisigB, transferB, statusB};
 ghost use Rattle.edges.specs.Room.{Room};
 ghost use Rattle.edges.specs.Stored.{registersStored, byteStored, countStored, statusStored};
 ghost use Rattle.image.specs.Layout.{offsetPlace, scsiCountPlace};

@@ -6,7 +6,7 @@ ghost use lib.ListN.{getD};
 ghost use Rattle.rules.specs.Seen.{ioSeen, connected, matched, path, synchronous};
 ghost use Rattle.rules.specs.StepB.{quietAfter};
 ghost use Rattle.edges.specs.From.{rstRisesFrom, reqRisesFrom};
-ghost use Rattle.edges.specs.Parts.{resetB, busyB};
+ghost use Rattle.edges.specs.Components.{resetB, busyB};
 ghost use Rattle.edges.specs.Tests.{inboundBad, pastLimit, lateBehind};
 ghost use Rattle.image.specs.Image.{stateAt};
 ghost use Rattle.image.specs.Layout.{scsiCountPlace};

@@ -1,7 +1,7 @@
 use mathlib.Core.Path.{_∙_}
 use mathlib.Core.Bool.{_||_}
 use Rattle.image.specs.Image.{stateAt}
-use Rattle.edges.specs.Parts.{storedB}
+use Rattle.edges.specs.Components.{storedB}
 use Rattle.edges.proofs.Placed.{place-of, path-stored, room-after, counted-placed, path-parts}
 use Rattle.edges.proofs.after.path_in.Statement.{statement}
 use Rattle.edges.proofs.after.path_in.Tie as tie

@@ -5,7 +5,7 @@ use mathlib.Core.Bool.{true, false}
 use lib.ListN.{getD}
 use Rattle.image.specs.Image.{imageOf, stateAt}
 use Rattle.image.specs.Layout.{dataPlace}
-use Rattle.edges.specs.Parts.{storedB}
+use Rattle.edges.specs.Components.{storedB}
 use Rattle.edges.specs.Frequent.{raisedB}
 use Rattle.edges.proofs.Placed.{scsi-placed, status-placed}
 use Rattle.edges.proofs.Frequent.{late-at, inbound-none, inbound-as}
