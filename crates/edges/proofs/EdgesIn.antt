@@ -1,62 +1,46 @@
 -- The edges, as they are found one after the other; `held` is the count of the SCSI FIFO.
-use Prim.Native.Nat.{ℕ, _+_, min}
+use Prim.Native.Nat.{ℕ}
 use mathlib.Core.Path.{_≡_, ap, _∙_}
-use mathlib.Core.Bool.{Bool, false, not, _&&_, _||_, cond}
+use mathlib.Core.Bool.{Bool, not, _&&_}
 use mathlib.Core.List.{List}
-use lib.Dec.{eqb, leb, ltb}
+use lib.Dec.{leb}
 use lib.ListN.{length, getD}
 use Rattle.rules.specs.State.{State}
-use Rattle.rules.specs.Seen.{rstSeen, selSeen, bsySeen, connected, matched, path, synchronous, limit}
-use Rattle.rules.specs.StepB.{parityBad, beyondLimit, lateByte}
-use Rattle.edges.specs.Parts.{registersB}
+use Rattle.rules.specs.Seen.{ioSeen, reqSeen, matched, path, synchronous}
+use Rattle.rules.specs.StepB.{beyondLimit, lateByte, quietAfter}
+use Rattle.edges.specs.Components.{resetB}
 use Rattle.edges.specs.declared.edges.Edges.{Edges}
 use Rattle.image.specs.Image.{stateAt, IsImage}
 use Rattle.image.specs.Layout.{scsiCountPlace}
-use Rattle.edges.specs.Inbound.{inboundEven}
+use Rattle.edges.specs.Tests.{inboundBad, pastLimit, lateBehind}
 use Rattle.edges.specs.From.{rstRisesFrom, reqRisesFrom, synchronousReqFrom, quietFrom, edgesFrom}
 use Rattle.edges.proofs.Laws.{and-not, inbound-checked}
 use Rattle.edges.proofs.Placed.{held-of}
 
 module _ (s : State) (held : ℕ) (rst req : Bool) (ticks : ℕ) where
-  unfoldable pub resetIn : Bool
-  resetIn = rstSeen s && not rst
-
-  unfoldable pub risesIn : Bool
-  risesIn = s .lines .req && not req && not (rstSeen s)
-
   unfoldable pub badIn : Bool → Bool
-  badIn rises =
-      rises
-      && (connected s && s .lines .io && s .registers .sxfrctl1 .enspchk && inboundEven (s .lines))
+  badIn rises = rises && inboundBad s
 
   unfoldable pub callIn : Bool → Bool
   callIn rises = rises && matched s && path (s .registers) && synchronous s
 
-  abbrev pub pastIn : Bool
-  pastIn = leb (limit (s .registers)) (s .transfer .offset) || (s .lines .io && leb 8 held)
-
   unfoldable pub beyondIn : Bool → Bool
-  beyondIn call = call && pastIn
+  beyondIn call = call && pastLimit held s
 
   unfoldable pub lateIn : Bool → Bool
-  lateIn counted = counted && (s .lines .io && eqb (s .transfer .offset) 0 && ltb 0 held)
-
-  unfoldable pub quietIn : Bool → ℕ
-  quietIn reset =
-      let r = registersB reset false false (s .registers) in
-      cond (bsySeen r (s .lines) || selSeen r (s .lines)) 0 (min 8 (s .quiet + ticks))
+  lateIn counted = counted && lateBehind held s
 
   -- the edges by what is found
   abbrev pub edgesBy : Bool → Bool → Bool → Bool → Bool → Bool → ℕ → Edges
   edgesBy reset rises bad call beyond late quiet =
       record {
-        reqfalls = req && not (s .lines .req);
+        reqfalls = req && not (reqSeen s);
         rstrises = reset;
         reqrises = rises;
         paritybad = bad;
         beyond = beyond;
         counted = call && not beyond;
-        stored = call && not beyond && s .lines .io;
+        stored = call && not beyond && ioSeen s;
         late = late;
         free = leb 8 quiet && not (leb 8 (s .quiet));
         quiet = quiet;
@@ -64,17 +48,19 @@ module _ (s : State) (held : ℕ) (rst req : Bool) (ticks : ℕ) where
 
   unfoldable pub edgesIn : Edges
   edgesIn =
-      let call = callIn risesIn in
-      edgesBy resetIn risesIn (badIn risesIn) call (beyondIn call) (lateIn (call && not (beyondIn call))) (quietIn resetIn)
+      let reset = rstRisesFrom rst s in
+      let rises = reqRisesFrom req s in
+      let call = callIn rises in
+      edgesBy reset rises (badIn rises) call (beyondIn call) (lateIn (call && not (beyondIn call))) (quietAfter ticks (resetB reset s))
 
-  pub edges-found : {reset rises bad call beyond late : Bool} {quiet : ℕ} → reset ≡ resetIn → rises ≡ risesIn → bad ≡ badIn rises → call ≡ callIn rises → beyond ≡ beyondIn call → late ≡ lateIn (call && not beyond) → quiet ≡ quietIn reset → edgesBy reset rises bad call beyond late quiet ≡ edgesIn
+  pub edges-found : {reset rises bad call beyond late : Bool} {quiet : ℕ} → reset ≡ rstRisesFrom rst s → rises ≡ reqRisesFrom req s → bad ≡ badIn rises → call ≡ callIn rises → beyond ≡ beyondIn call → late ≡ lateIn (call && not beyond) → quiet ≡ quietAfter ticks (resetB reset s) → edgesBy reset rises bad call beyond late quiet ≡ edgesIn
   unfolding edgesIn
   edges-found a b d e f g h = cc
 
 -- they are those of the state, where the count is that of the bytes
 edges-of : (s : State) (rst req : Bool) (ticks : ℕ) → edgesIn s (length (s .transfer .scsi)) rst req ticks ≡ edgesFrom rst req s ticks
-unfolding edgesFrom rstRisesFrom reqRisesFrom synchronousReqFrom quietFrom parityBad beyondLimit lateByte edgesIn resetIn risesIn badIn callIn beyondIn lateIn quietIn
-edges-of s rst req ticks = rw (inbound-checked (s .registers) (s .lines) (s .transfer), and-not)
+unfolding edgesFrom synchronousReqFrom quietFrom beyondLimit lateByte edgesIn badIn callIn beyondIn lateIn
+edges-of s rst req ticks = rw (inbound-checked s, and-not)
 
 pub edges-in : (m : List ℕ) (rst req : Bool) (ticks : ℕ) → IsImage m → edgesIn (stateAt m) (getD m scsiCountPlace 0) rst req ticks ≡ edgesFrom rst req (stateAt m) ticks
 edges-in m rst req ticks i =

@@ -5,28 +5,27 @@ use mathlib.Core.Bool.{Bool, true, false, not, _&&_, _||_, cond, and-true, and-f
 use mathlib.Core.List.{List, [], _∷_, _++_}
 use lib.Dec.{eqb, leb, ltb}
 use lib.ListN.{getD}
-use Rattle.rules.specs.State.{State, Transfer}
-use Rattle.rules.specs.Seen.{mismatched, limit, dataSeen}
+use Rattle.rules.specs.State.{State}
+use Rattle.rules.specs.Seen.{rstSeen, selSeen, bsySeen, ioSeen, reqSeen, connected, matched, mismatched, synchronous, dataSeen}
 use Rattle.rules.specs.StepB.{parityBad, beyondLimit, lateByte}
-use Rattle.rules.specs.declared.registers.Registers.{Registers}
-use Rattle.rules.specs.declared.records.Lines.{Lines}
 use Rattle.edges.specs.declared.edges.Edges.{Edges}
-use Rattle.rules.specs.Changed.{withTransfer, withStatus, withQuiet}
-use Rattle.image.specs.Image.{imageOf, stateAt, registersAt, linesAt}
+use Rattle.rules.specs.Changed.{withStatus, withQuiet}
+use Rattle.image.specs.Image.{imageOf, stateAt}
 use Rattle.image.specs.Layout.{offsetPlace, scsiCountPlace}
 use Rattle.edges.specs.From.{rstRisesFrom, reqRisesFrom, synchronousReqFrom, quietFrom, edgesFrom, appliedFrom}
-use Rattle.edges.specs.Parts.{registersB, transferB, statusB, storedB, countedB}
+use Rattle.edges.specs.Components.{registersB, transferB, statusB, storedB, countedB}
+use Rattle.edges.specs.Tests.{pastLimit}
 use Rattle.edges.specs.Frequent.{raisedB, phaseB, inboundB, callB, risenB, releasedB, initB, reqB}
 use Rattle.edges.proofs.Laws.{inbound-data}
 use Rattle.edges.proofs.Placed.{offset-of, held-of}
 
 -- the byte that is stored where IO is seen
-inbound-byte : (r : Registers) (l : Lines) (t : Transfer) (b : Bool) (x : List ℕ) → cond (b && l .io) (x ++ (dataSeen r l t ∷ [])) x ≡ cond (b && l .io) (x ++ (l .byte ∷ [])) x
-inbound-byte r l t false x = refl
-inbound-byte r l t true x = by-io (l .io) refl
+inbound-byte : (s : State) (b : Bool) (x : List ℕ) → cond (b && ioSeen s) (x ++ (dataSeen s ∷ [])) x ≡ cond (b && ioSeen s) (x ++ (s .lines .byte ∷ [])) x
+inbound-byte s false x = refl
+inbound-byte s true x = by-io (ioSeen s) refl
   where
-    by-io : (io : Bool) → l .io ≡ io → cond io (x ++ (dataSeen r l t ∷ [])) x ≡ cond io (x ++ (l .byte ∷ [])) x
-    by-io true e = ap (λ (d : ℕ). x ++ (d ∷ [])) (inbound-data r l t e)
+    by-io : (io : Bool) → ioSeen s ≡ io → cond io (x ++ (dataSeen s ∷ [])) x ≡ cond io (x ++ (s .lines .byte ∷ [])) x
+    by-io true e = ap (λ (d : ℕ). x ++ (d ∷ [])) (inbound-data s e)
     by-io false e = refl
 
 released-alone : (b : Bool) → (b || false || false) ≡ b
@@ -37,16 +36,16 @@ released-alone false = refl
 abbrev plainB : Edges → Bool → ℕ → State → State
 plainB g was byte s =
     withQuiet (g .quiet)
-    (withStatus (raisedB (mismatched s && not was) (g .reqrises) (g .late) (s .status)) (withTransfer (countedB false (g .counted) (g .reqfalls) (storedB (g .stored) byte (s .transfer))) s))
+    (withStatus (raisedB (mismatched s && not was) (g .reqrises) (g .late) (s .status)) (countedB false (g .counted) (g .reqfalls) (storedB (g .stored) byte s)))
 
 applied-plain : (g : Edges) (was : Bool) (s : State) → g .rstrises ≡ false → g .paritybad ≡ false → g .free ≡ false → appliedFrom g was s ≡ plainB g was (dataSeen s) s
-unfolding appliedFrom registersB transferB statusB
+unfolding appliedFrom registersB transferB statusB mismatched matched connected bsySeen selSeen rstSeen
 applied-plain g was s a b d = rw (a, b, d, released-alone)
 
 plain-parts : (rst req was : Bool) (s : State) (ticks : ℕ) → plainB (edgesFrom rst req s ticks) was (dataSeen s) s ≡ reqB req (phaseB was (withQuiet (quietFrom rst s ticks) s))
-unfolding edgesFrom reqB reqRisesFrom synchronousReqFrom beyondLimit lateByte
+unfolding edgesFrom reqB reqRisesFrom synchronousReqFrom beyondLimit lateByte mismatched matched connected synchronous bsySeen selSeen rstSeen
 plain-parts rst req was s ticks =
-    rw (inbound-byte (s .registers) (s .lines) (s .transfer) (synchronousReqFrom req s && not (beyondLimit s)) (s .transfer .scsi))
+    rw (inbound-byte s (synchronousReqFrom req s && not (beyondLimit s)) (s .transfer .scsi))
 
 pub frequent : (rst req was : Bool) (s : State) (ticks : ℕ) → rstRisesFrom rst s ≡ false → (reqRisesFrom req s && parityBad s) ≡ false → (leb 8 (quietFrom rst s ticks) && not (leb 8 (s .quiet))) ≡ false → appliedFrom (edgesFrom rst req s ticks) was s ≡ reqB req (phaseB was (withQuiet (quietFrom rst s ticks) s))
 unfolding edgesFrom
@@ -61,34 +60,33 @@ pub phase-as : (was : Bool) (s : State) {seen : Bool} → was ≡ false → seen
 phase-as was s e f = rw (e, f, and-true)
 
 -- an inbound byte, where IO is seen
-pub late-at : (m : List ℕ) (s : State) → m ≡ imageOf s → s .lines .io ≡ true → (eqb (getD m offsetPlace 0) 0 && ltb 0 (getD m scsiCountPlace 0)) ≡ lateByte s
+pub late-at : (m : List ℕ) (s : State) → m ≡ imageOf s → ioSeen s ≡ true → (eqb (getD m offsetPlace 0) 0 && ltb 0 (getD m scsiCountPlace 0)) ≡ lateByte s
 unfolding lateByte
 late-at m s e h = rw (h, offset-of m s e, held-of m s e)
 
-pub inbound-none : (s : State) → s .lines .io ≡ false → inboundB true s ≡ s
+pub inbound-none : (s : State) → ioSeen s ≡ false → inboundB true s ≡ s
 unfolding lateByte
 inbound-none s h = rw h
 
-pub inbound-as : (s : State) {late : Bool} {byte : ℕ} → s .lines .io ≡ true → late ≡ lateByte s → byte ≡ s .lines .byte → withStatus (raisedB false false late (s .status)) (withTransfer (storedB true byte (s .transfer)) s) ≡ inboundB true s
+pub inbound-as : (s : State) {late : Bool} {byte : ℕ} → ioSeen s ≡ true → late ≡ lateByte s → byte ≡ s .lines .byte → withStatus (raisedB false false late (s .status)) (storedB true byte s) ≡ inboundB true s
 inbound-as s h f g =
-    λ i. withStatus (raisedB false false (f i) (s .status)) (withTransfer (storedB (sym h i) (g i) (s .transfer)) s)
+    λ i. withStatus (raisedB false false (f i) (s .status)) (storedB (sym h i) (g i) s)
 
 -- a synchronous REQ that is counted, or is not
 pub uncounted : (call : Bool) (s : State) → (call && not (beyondLimit s)) ≡ false → risenB call s ≡ s
 uncounted call s e = rw e
 
-pub counted : (call : Bool) (s : State) → (call && not (beyondLimit s)) ≡ true → withTransfer (countedB false true false ((inboundB true s) .transfer)) (inboundB true s) ≡ risenB call s
+pub counted : (call : Bool) (s : State) → (call && not (beyondLimit s)) ≡ true → countedB false true false (inboundB true s) ≡ risenB call s
 counted call s e = rw e
 
-pub beyond-at : (m : List ℕ) → m ≡ imageOf (stateAt m) → {b : Bool} → b ≡ (leb (limit (registersAt m)) (getD m offsetPlace 0) || ((linesAt m) .io && leb 8 (getD m scsiCountPlace 0))) → b ≡ beyondLimit (stateAt m)
-unfolding beyondLimit stateAt
-beyond-at m e f =
-    f ∙ ap (λ (n : ℕ). leb (limit (registersAt m)) (getD m offsetPlace 0) || ((linesAt m) .io && leb 8 n)) (held-of m (stateAt m) e)
+pub beyond-at : (m : List ℕ) → m ≡ imageOf (stateAt m) → {b : Bool} → b ≡ pastLimit (getD m scsiCountPlace 0) (stateAt m) → b ≡ beyondLimit (stateAt m)
+unfolding beyondLimit
+beyond-at m e f = f ∙ ap (λ (n : ℕ). pastLimit n (stateAt m)) (held-of m (stateAt m) e)
 
 -- REQ, by what it was and is
 module _ (was : Bool) (s : State) where
   abbrev fallsFrom : Bool
-  fallsFrom = was && not (s .lines .req)
+  fallsFrom = was && not (reqSeen s)
 
   pub req-kept : reqRisesFrom was s ≡ false → fallsFrom ≡ false → reqB was s ≡ s
   unfolding reqB synchronousReqFrom
@@ -98,14 +96,14 @@ module _ (was : Bool) (s : State) where
   unfolding reqB synchronousReqFrom
   req-fallen a b = rw (a, b)
 
-  pub req-risen : reqRisesFrom was s ≡ true → fallsFrom ≡ false → risenB (callB s) (initB true s) ≡ reqB was s
-  unfolding reqB synchronousReqFrom
+  pub req-risen : reqRisesFrom was s ≡ true → fallsFrom ≡ false → risenB (callB (initB true s)) (initB true s) ≡ reqB was s
+  unfolding reqB synchronousReqFrom matched connected synchronous bsySeen selSeen rstSeen
   req-risen a b = rw (a, b)
 
   pub none-beyond : reqRisesFrom was s ≡ false → false ≡ (synchronousReqFrom was s && beyondLimit s)
   unfolding synchronousReqFrom
   none-beyond a = rw a
 
-  pub risen-beyond : reqRisesFrom was s ≡ true → (callB s && beyondLimit (initB true s)) ≡ (synchronousReqFrom was s && beyondLimit s)
-  unfolding synchronousReqFrom beyondLimit
+  pub risen-beyond : reqRisesFrom was s ≡ true → (callB (initB true s) && beyondLimit (initB true s)) ≡ (synchronousReqFrom was s && beyondLimit s)
+  unfolding synchronousReqFrom beyondLimit matched connected synchronous bsySeen selSeen rstSeen
   risen-beyond a = rw a

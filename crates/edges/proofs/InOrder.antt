@@ -6,13 +6,13 @@ use mathlib.Core.Path.{_≡_, refl, ap, sym, _∙_}
 use mathlib.Core.Bool.{Bool, true, false, not, _&&_, _||_, cond, and-false}
 use mathlib.Core.List.{List, [], _∷_, _++_, append-nil}
 use Rattle.rules.specs.State.{State}
-use Rattle.rules.specs.Seen.{rstSeen, reqSeen, ioSeen, bsySeen, selSeen, mismatched, dataSeen}
+use Rattle.rules.specs.Seen.{rstSeen, reqSeen, ioSeen, bsySeen, selSeen, connected, matched, mismatched, dataSeen}
 use Rattle.rules.specs.StepB.{reqFalls, ackReleased, afterReqFalls, rstRises, busReset, afterRstRises, reqRises, parityBad, attention, synchronousReq, beyondLimit, beyond, countedReq, lateByte, storedByte, reqRisen, afterReqRises, quietAfter, busFree, busFreed, afterQuietTicks, phaseChanges, phaseChanged, afterPhaseChanges, inOrder}
 use Rattle.rules.specs.Changed.{withStatus, withQuiet}
 use Rattle.rules.specs.declared.chip.Status.{Status}
 use Rattle.rules.proofs.InOrder.{falls-keeps}
-use Rattle.rules.proofs.Logic.{never, left-true, right-true, cond-case}
-use Rattle.edges.specs.Parts.{registersB, transferB, statusB}
+use Rattle.rules.proofs.Logic.{never, left-true, cond-case}
+use Rattle.edges.specs.Components.{registersB, transferB, statusB}
 use Rattle.edges.specs.From.{rstRisesFrom, reqRisesFrom, synchronousReqFrom, quietFrom, edgesFrom, appliedFrom}
 use Rattle.edges.specs.declared.edges.Edges.{Edges}
 
@@ -51,12 +51,12 @@ module _ (last now : State) where
 
   -- the automatic ACK is not looked at
   reset-two : rstRises last now ≡ true → afterRstRises last (afterReqFalls last now) ≡ busReset now
-  unfolding afterReqFalls afterRstRises ackReleased busReset rstRises
+  unfolding afterReqFalls afterRstRises ackReleased busReset rstRises rstSeen
   reset-two r =
       cond-case (λ n. afterRstRises last n ≡ busReset now) (reqFalls last now) (ackReleased now) now (λ f. rw r) (λ f. rw r)
 
   unreset-two : rstRises last now ≡ false → afterRstRises last (afterReqFalls last now) ≡ afterReqFalls last now
-  unfolding afterReqFalls ackReleased rstRises
+  unfolding afterReqFalls ackReleased rstRises rstSeen
   unreset-two r =
       cond-case (λ n. afterRstRises last n ≡ n) (reqFalls last now) (ackReleased now) now (λ f. calm (ackReleased now) r) (λ f. calm now r)
 
@@ -69,7 +69,7 @@ module _ (last now : State) where
   reset-no-req r = rw (left-true (now .lines .rst || now .registers .scsiseq .scsirsto) _ r, and-false)
 
   unrisen : reqRises last now ≡ false → reqRises last (afterReqFalls last now) ≡ false
-  unfolding afterReqFalls ackReleased reqRises
+  unfolding afterReqFalls ackReleased reqRises rstSeen
   unrisen u = cond-case (λ n. reqRises last n ≡ false) (reqFalls last now) (ackReleased now) now (λ f. u) (λ f. u)
 
 -- the last two steps of a state, where it is known whether the bus becomes free
@@ -152,14 +152,14 @@ otherEdges falls free quiet =
 
 module _ (was : Bool) (now : State) where
   applied-reset : (falls free : Bool) (quiet : ℕ) → appliedFrom (resetEdges falls free quiet) was now ≡ endsBy was free quiet (busReset now)
-  unfolding appliedFrom registersB transferB statusB busReset busFreed
+  unfolding appliedFrom registersB transferB statusB busReset busFreed mismatched matched connected bsySeen selSeen rstSeen
   applied-reset true true quiet = refl
   applied-reset true false quiet = refl
   applied-reset false true quiet = refl
   applied-reset false false quiet = refl
 
   applied-other : (falls free : Bool) (quiet : ℕ) → appliedFrom (otherEdges falls free quiet) was now ≡ endsBy was free quiet (cond falls (ackReleased now) now)
-  unfolding appliedFrom registersB transferB statusB ackReleased busFreed
+  unfolding appliedFrom registersB transferB statusB ackReleased busFreed mismatched matched connected bsySeen selSeen rstSeen
   applied-other true true quiet = refl
   applied-other true false quiet = refl
   applied-other false true quiet = refl
@@ -174,7 +174,7 @@ module _ (was : Bool) (now : State) where
   stored-as = stored-last (countedReq now && ioSeen now) (now .transfer .scsi) _
 
   applied-risen : (free : Bool) (quiet : ℕ) → appliedFrom (risenEdges now free quiet) was now ≡ endsBy was free quiet (reqRisen now)
-  unfolding appliedFrom registersB transferB statusB attention reqRisen busFreed
+  unfolding appliedFrom registersB transferB statusB attention reqRisen busFreed mismatched matched connected bsySeen selSeen rstSeen
   applied-risen true quiet = rw stored-as
   applied-risen false quiet = rw stored-as
 
@@ -202,11 +202,11 @@ module _ (last : State) (ticks : ℕ) (now : State) where
 
   -- nor do the quiet ticks look at the automatic ACK
   quiet-fallen : quietAfter ticks (afterReqFalls last now) ≡ quietAfter ticks now
-  unfolding ackReleased quietAfter
+  unfolding ackReleased quietAfter bsySeen selSeen
   quiet-fallen = falls-keeps (λ n. quietAfter ticks n ≡ quietAfter ticks now) last (λ n h. h) now refl
 
   free-fallen : busFree ticks (afterReqFalls last now) ≡ busFree ticks now
-  unfolding ackReleased busFree quietAfter
+  unfolding ackReleased busFree quietAfter bsySeen selSeen
   free-fallen = falls-keeps (λ n. busFree ticks n ≡ busFree ticks now) last (λ n h. h) now refl
 
   abbrev Ordered : Type 0

@@ -1,37 +1,32 @@
 -- The frequent parts in turn, where the tests for what is rare have failed.
-use Prim.Native.Nat.{ℕ, _+_, min}
+use Prim.Native.Nat.{ℕ}
 use mathlib.Core.Path.{_≡_, refl, ap, sym, _∙_}
-use mathlib.Core.Bool.{Bool, false, not, _&&_, _||_, cond}
+use mathlib.Core.Bool.{Bool, false, not, _&&_}
 use mathlib.Core.List.{List}
 use lib.Dec.{leb}
 use lib.ListN.{getD, set}
 use Rattle.rules.specs.State.{State}
-use Rattle.rules.specs.Seen.{rstSeen, selSeen, bsySeen, connected}
-use Rattle.rules.specs.StepB.{parityBad, beyondLimit}
-use Rattle.edges.specs.Parts.{registersB}
+use Rattle.rules.specs.Seen.{rstSeen, selSeen, bsySeen, connected, matched, synchronous}
+use Rattle.rules.specs.StepB.{parityBad, beyondLimit, quietAfter}
+use Rattle.edges.specs.Components.{resetB}
 use Rattle.rules.specs.Changed.{withQuiet}
-use Rattle.image.specs.Image.{imageOf, stateAt, registersAt, linesAt}
+use Rattle.image.specs.Image.{imageOf, stateAt}
 use Rattle.image.specs.Layout.{quietPlace}
-use Rattle.edges.specs.Inbound.{inboundEven}
+use Rattle.edges.specs.Tests.{inboundBad}
 use Rattle.edges.specs.From.{rstRisesFrom, reqRisesFrom, synchronousReqFrom, quietFrom, edgesFrom, appliedFrom}
 use Rattle.edges.specs.Frequent.{phaseB, reqB}
 use Rattle.edges.proofs.Laws.{inbound-checked}
-use Rattle.edges.proofs.Placed.{quiet-placed, quiet-back, status-back, packed-as}
+use Rattle.edges.proofs.Placed.{quiet-placed, quiet-kept, status-kept, packed-as}
 use Rattle.edges.proofs.Frequent.{frequent}
 
 -- the tests, of the state
 module _ (m : List ℕ) (rst req : Bool) (ticks : ℕ) where
-  pub no-reset : {b : Bool} → b ≡ (rstSeen (stateAt m) && not rst) → b ≡ false → rstRisesFrom rst (stateAt m) ≡ false
-  unfolding rstRisesFrom stateAt
-  no-reset e f = sym e ∙ f
-
-  pub quiet-is : {q : ℕ} → rstRisesFrom rst (stateAt m) ≡ false → q ≡ cond (bsySeen (registersB false false false (registersAt m)) (linesAt m) || selSeen (registersB false false false (registersAt m)) (linesAt m)) 0 (min 8 (getD m quietPlace 0 + ticks)) → q ≡ quietFrom rst (stateAt m) ticks
-  unfolding quietFrom stateAt
+  pub quiet-is : {q : ℕ} → rstRisesFrom rst (stateAt m) ≡ false → q ≡ quietAfter ticks (resetB false (stateAt m)) → q ≡ quietFrom rst (stateAt m) ticks
+  unfolding quietFrom
   quiet-is a e = rw a e
 
-  pub no-error : {b : Bool} → b ≡ ((linesAt m) .req && not req && not (rstSeen (stateAt m)) && (connected (stateAt m) && (linesAt m) .io && (registersAt m) .sxfrctl1 .enspchk && inboundEven (linesAt m))) → b ≡ false → (reqRisesFrom req (stateAt m) && parityBad (stateAt m)) ≡ false
-  unfolding reqRisesFrom parityBad stateAt
-  no-error e f = rw (inbound-checked ((stateAt m) .registers) ((stateAt m) .lines) ((stateAt m) .transfer)) (sym e ∙ f)
+  pub no-error : {b : Bool} → b ≡ (reqRisesFrom req (stateAt m) && inboundBad (stateAt m)) → b ≡ false → (reqRisesFrom req (stateAt m) && parityBad (stateAt m)) ≡ false
+  no-error e f = rw (inbound-checked (stateAt m)) (sym e ∙ f)
 
   pub not-free : {q : ℕ} → q ≡ quietFrom rst (stateAt m) ticks → (leb 8 q && not (leb 8 (getD m quietPlace 0))) ≡ false → (leb 8 (quietFrom rst (stateAt m) ticks) && not (leb 8 ((stateAt m) .quiet))) ≡ false
   unfolding stateAt
@@ -40,7 +35,7 @@ module _ (m : List ℕ) (rst req : Bool) (ticks : ℕ) where
 -- the quiet ticks and the phase
 module _ (m : List ℕ) (packed : m ≡ imageOf (stateAt m)) (q : ℕ) where
   quiet-again : stateAt (imageOf (withQuiet q (stateAt m))) ≡ withQuiet q (stateAt m)
-  quiet-again = quiet-back (stateAt m) q (ap stateAt (sym packed))
+  quiet-again = quiet-kept (stateAt m) q (ap stateAt (sym packed))
 
   quieted-back : stateAt (set m quietPlace q) ≡ withQuiet q (stateAt m)
   quieted-back = ap stateAt (quiet-placed m q (stateAt m) packed) ∙ quiet-again
@@ -56,7 +51,7 @@ module _ (m : List ℕ) (packed : m ≡ imageOf (stateAt m)) (was : Bool) (q : �
   phased = then ∙ ap (λ (x : State). imageOf (phaseB was x)) (quieted-back m packed q)
 
   phased-back : stateAt n ≡ t
-  phased-back = ap stateAt phased ∙ status-back (withQuiet q (stateAt m)) _ (quiet-again m packed q)
+  phased-back = ap stateAt phased ∙ status-kept (withQuiet q (stateAt m)) _ (quiet-again m packed q)
 
   pub phased-packed : n ≡ imageOf (stateAt n)
   phased-packed = packed-as t phased phased-back
@@ -64,7 +59,7 @@ module _ (m : List ℕ) (packed : m ≡ imageOf (stateAt m)) (was : Bool) (q : �
   -- REQ after them
   module _ (rst req : Bool) (ticks : ℕ) (e : q ≡ quietFrom rst (stateAt m) ticks) where
     kept : (synchronousReqFrom req t && beyondLimit t) ≡ (edgesFrom rst req (stateAt m) ticks) .beyond
-    unfolding edgesFrom synchronousReqFrom reqRisesFrom beyondLimit
+    unfolding edgesFrom synchronousReqFrom reqRisesFrom beyondLimit matched connected synchronous bsySeen selSeen rstSeen
     kept = refl
 
     pub beyond-is : {b : Bool} → b ≡ (synchronousReqFrom req (stateAt n) && beyondLimit (stateAt n)) → b ≡ (edgesFrom rst req (stateAt m) ticks) .beyond

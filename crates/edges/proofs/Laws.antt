@@ -2,18 +2,21 @@
 use mathlib.Core.Path.{_≡_, refl, ap, sym}
 use mathlib.Core.Bool.{Bool, true, false, not, _&&_, _||_, and-true, and-false, or-false, Bool·beq}
 use lib.Bits.{or-zero-r}
-use Rattle.rules.specs.State.{Transfer}
-use Rattle.rules.specs.Seen.{bsySeen, selSeen, connected, driving, dataDriven, dataSeen, parityDriven, paritySeen, parityEven}
-use Rattle.edges.specs.Parts.{registersB}
+use Rattle.rules.specs.State.{State}
+use Rattle.rules.specs.Seen.{bsySeen, selSeen, ioSeen, connected, driving, dataDriven, dataSeen, parityDriven, paritySeen, parityEven}
+use Rattle.rules.specs.StepB.{parityBad}
+use Rattle.edges.specs.Components.{registersB, busyB}
 use Rattle.rules.specs.declared.registers.Registers.{Registers}
-use Rattle.rules.specs.declared.records.Lines.{Lines}
-use Rattle.edges.specs.Inbound.{inboundEven}
+use Rattle.edges.specs.Tests.{inboundEven, inboundBad}
 
--- what is seen of BSY and SEL once a bus reset has zeroed 343h
-pub busy-after : (reset : Bool) (r : Registers) (l : Lines) → ((l .bsy || (not reset && r .scsisig .bsyo)) || (l .sel || (not reset && r .scsisig .selo))) ≡ (bsySeen (registersB reset false false r) l || selSeen (registersB reset false false r) l)
+-- what is seen of BSY and SEL once a bus reset has zeroed 343h, and without one
+pub busy-reset : (s : State) → (s .lines .bsy || s .lines .sel) ≡ busyB true s
 unfolding bsySeen selSeen registersB
-busy-after true r l = refl
-busy-after false r l = refl
+busy-reset s = rw (or-false (s .lines .bsy), or-false (s .lines .sel))
+
+pub busy-unreset : (s : State) → (bsySeen s || selSeen s) ≡ busyB false s
+unfolding registersB
+busy-unreset s = refl
 
 -- without a bus reset, a parity error and bus free the registers stay
 pub registers-kept : (reset bad free : Bool) (r : Registers) → (reset || bad || free) ≡ false → r ≡ registersB reset bad free r
@@ -40,20 +43,20 @@ module _ (a b d : Bool) where
   third-fails g = rw (g, and-false (a && b))
 
 -- while IO is seen the chip drives no data, and the data seen are those of others
-module _ (r : Registers) (l : Lines) (t : Transfer) (io : l .io ≡ true) where
-  not-driving : driving r l t ≡ false
+module _ (s : State) (io : ioSeen s ≡ true) where
+  not-driving : driving s ≡ false
   unfolding driving
   not-driving = rw (io, and-false)
 
-  pub inbound-data : dataSeen r l t ≡ l .byte
+  pub inbound-data : dataSeen s ≡ s .lines .byte
   unfolding dataSeen dataDriven
   inbound-data = rw (not-driving, or-zero-r)
 
-  inbound-parity : paritySeen r l t ≡ l .parity
+  inbound-parity : paritySeen s ≡ s .lines .parity
   unfolding paritySeen parityDriven
   inbound-parity = rw (not-driving, or-false)
 
-  inbound-even : parityEven r l t ≡ inboundEven l
+  inbound-even : parityEven s ≡ inboundEven s
   unfolding parityEven
   inbound-even = rw (inbound-data, inbound-parity)
 
@@ -63,8 +66,10 @@ counts-where a true e p q f = ap (λ (b : Bool). a && true && e && b) (f refl)
 counts-where a false e p q f = rw and-false
 
 -- where parity is checked, only the data of others count
-pub inbound-checked : (r : Registers) (l : Lines) (t : Transfer) → (connected r l && l .io && r .sxfrctl1 .enspchk && parityEven r l t) ≡ (connected r l && l .io && r .sxfrctl1 .enspchk && inboundEven l)
-inbound-checked r l t = counts-where (connected r l) (l .io) (r .sxfrctl1 .enspchk) (parityEven r l t) (inboundEven l) (inbound-even r l t)
+pub inbound-checked : (s : State) → parityBad s ≡ inboundBad s
+unfolding parityBad
+inbound-checked s =
+    counts-where (connected s) (ioSeen s) (s .registers .sxfrctl1 .enspchk) (parityEven s) (inboundEven s) (inbound-even s)
 
 -- REQ as it was and is
 pub same-falls : (now was : Bool) → Bool·beq now was ≡ true → (was && not now) ≡ false

@@ -1,7 +1,7 @@
 -- Stores into the image of a state are the image of another.
 use Prim.Native.Nat.{ℕ, _+_, _<_}
 use mathlib.Core.Path.{_≡_, refl, ap, sym, _∙_}
-use mathlib.Core.Bool.{Bool, true, false, not, _&&_, _||_, cond, or-false}
+use mathlib.Core.Bool.{Bool, true, false, not, _&&_, _||_, cond}
 use mathlib.Core.List.{List, [], _∷_, _++_, append-assoc}
 use native.Mathlib.Omega.{arith}
 use native.Mathlib.Nat.{zero-add, suc-add}
@@ -17,45 +17,34 @@ use Rattle.rules.specs.declared.registers.Scsisig.{Scsisig}
 use Rattle.rules.specs.declared.registers.Registers.{Registers}
 use Rattle.rules.specs.declared.chip.Status.{Status}
 use Rattle.edges.specs.declared.edges.Edges.{Edges}
-use Rattle.rules.specs.Changed.{withRegisters, withTransfer, withStatus, withQuiet}
+use Rattle.rules.specs.Changed.{withRegisters, withStatus, withQuiet}
 use Rattle.image.specs.Image.{imageOf, stateAt, IsImage, headOf, scsisigByte, statusOf, statusByte}
-use Rattle.image.proofs.EightBits.{is-one, bit-0, bit-1, bit-2, bit-3, bit-4, bit-5, bit-6, bit-7}
+use Rattle.image.proofs.EightBits.{is-one}
+use Rattle.image.proofs.ReadBack.{scsiseq-back, sxfrctl0-back, scsisig-back, status-back}
 use Rattle.image.specs.Layout.{ackPlace, offsetPlace, quietPlace, scsiBytesPlace, scsiCountPlace, scsiseqPlace, scsisigPlace, statusPlace, sxfrctl0Place}
 use Rattle.laws.proofs.Lists.{padded-push, padded-length}
-use Rattle.edges.specs.Parts.{scsiseqB, sxfrctl0B, scsisigB, registersB, transferB, storedB, countedB}
+use Rattle.edges.specs.Components.{scsiseqB, sxfrctl0B, scsisigB, registersB, transferB, storedB, countedB}
 use Rattle.edges.specs.Room.{Room}
 use Rattle.edges.specs.Stored.{registersStored, byteStored, countStored, statusStored}
 use Rattle.edges.proofs.Laws.{registers-kept}
 
--- a register unpacked from its byte
-seq-round : (q : Scsiseq) → scsiseqOf (scsiseqByte q) ≡ q
-seq-round q = rw (bit-7, bit-6, bit-5, bit-4, bit-3, bit-2, bit-1, bit-0)
-
-control-round : (x : Sxfrctl0) → sxfrctl0Of (sxfrctl0Byte x) ≡ x
-control-round x = rw (bit-7, bit-6, bit-5, bit-3)
-
-sig-round : (g : Scsisig) → scsisigOf false (scsisigByte g) ≡ g
-sig-round g = rw (bit-7, bit-6, bit-5, bit-4, bit-3, bit-2, bit-1, bit-0, or-false)
-
-status-round : (t : Status) → statusOf (statusByte t) ≡ t
-status-round t = rw (bit-7, bit-6, bit-5, bit-4, bit-3, bit-2, bit-1, bit-0)
-
+-- what stands in the places of an image
 module _ (s : State) where
   pub seq-at : scsiseqOf (getD (imageOf s) scsiseqPlace 0) ≡ s .registers .scsiseq
   unfolding imageOf
-  seq-at = seq-round (s .registers .scsiseq)
+  seq-at = scsiseq-back (s .registers .scsiseq)
 
   control-at : sxfrctl0Of (getD (imageOf s) sxfrctl0Place 0) ≡ s .registers .sxfrctl0
   unfolding imageOf
-  control-at = control-round (s .registers .sxfrctl0)
+  control-at = sxfrctl0-back (s .registers .sxfrctl0)
 
   pub sig-at : scsisigOf false (getD (imageOf s) scsisigPlace 0) ≡ s .registers .scsisig
   unfolding imageOf
-  sig-at = sig-round (s .registers .scsisig)
+  sig-at = scsisig-back (s .registers .scsisig)
 
   status-at : statusOf (getD (imageOf s) statusPlace 0) ≡ s .status
   unfolding imageOf
-  status-at = status-round (s .status)
+  status-at = status-back (s .status)
 
   pub held-at : getD (imageOf s) scsiCountPlace 0 ≡ length (s .transfer .scsi)
   unfolding imageOf
@@ -89,7 +78,7 @@ set-past [] q i b = ap (λ (j : ℕ). set q j b) (zero-add i)
 set-past (a ∷ x) q i b = rw (suc-add (length x) i, set-past x q i b)
 
 -- the count of another list, with its bytes
-scsi-image : (s : State) (b : ℕ) → set (headOf s ++ padded 8 (s .transfer .scsi ++ (b ∷ [])) ++ s .stack .bytes ++ padded 128 (s .transfer .host)) 23 (length (s .transfer .scsi ++ (b ∷ []))) ≡ imageOf (withTransfer (storedB true b (s .transfer)) s)
+scsi-image : (s : State) (b : ℕ) → set (headOf s ++ padded 8 (s .transfer .scsi ++ (b ∷ [])) ++ s .stack .bytes ++ padded 128 (s .transfer .host)) scsiCountPlace (length (s .transfer .scsi ++ (b ∷ []))) ≡ imageOf (storedB true b s)
 unfolding imageOf
 scsi-image s b = refl
 
@@ -100,7 +89,7 @@ scsi-split : (s : State) → imageOf s ≡ headOf s ++ (padded 8 (s .transfer .s
 unfolding imageOf
 scsi-split s = regroup (headOf s) (padded 8 (s .transfer .scsi)) (s .stack .bytes) (padded 128 (s .transfer .host))
 
-head-length : (s : State) → length (headOf s) ≡ 28
+head-length : (s : State) → length (headOf s) ≡ scsiBytesPlace
 head-length s = refl
 
 scsi-stored : (s : State) (b : ℕ) → length (s .transfer .scsi) < 8 → set (imageOf s) (scsiBytesPlace + length (s .transfer .scsi)) b ≡ headOf s ++ padded 8 (s .transfer .scsi ++ (b ∷ [])) ++ s .stack .bytes ++ padded 128 (s .transfer .host)
@@ -115,56 +104,56 @@ scsi-stored s b h =
     ∙ ap (λ (y : List ℕ). headOf s ++ y) (set-append-left (padded 8 l) z (length l) b k ∙ ap (λ (p : List ℕ). p ++ z) (padded-push 8 l b h))
     ∙ sym (regroup (headOf s) (padded 8 (l ++ (b ∷ []))) (s .stack .bytes) (padded 128 (s .transfer .host)))
 
-pub scsi-set : (s : State) (b : ℕ) → length (s .transfer .scsi) < 8 → set (set (imageOf s) (scsiBytesPlace + length (s .transfer .scsi)) b) scsiCountPlace (length (s .transfer .scsi) + 1) ≡ imageOf (withTransfer (storedB true b (s .transfer)) s)
+pub scsi-set : (s : State) (b : ℕ) → length (s .transfer .scsi) < 8 → set (set (imageOf s) (scsiBytesPlace + length (s .transfer .scsi)) b) scsiCountPlace (length (s .transfer .scsi) + 1) ≡ imageOf (storedB true b s)
 scsi-set s b h =
     let l : List ℕ = s .transfer .scsi in
     let n : length l + 1 ≡ length (l ++ (b ∷ [])) = sym (length-append l (b ∷ [])) in
     ap (λ (m : List ℕ). set m scsiCountPlace (length l + 1)) (scsi-stored s b h)
-    ∙ ap (λ (j : ℕ). set (headOf s ++ padded 8 (l ++ (b ∷ [])) ++ s .stack .bytes ++ padded 128 (s .transfer .host)) 23 j) n
+    ∙ ap (λ (j : ℕ). set (headOf s ++ padded 8 (l ++ (b ∷ [])) ++ s .stack .bytes ++ padded 128 (s .transfer .host)) scsiCountPlace j) n
     ∙ scsi-image s b
 
 abbrev storedBehind : ℕ → ℕ → List ℕ → List ℕ
 storedBehind held b m = set (set m (scsiBytesPlace + held) b) scsiCountPlace (held + 1)
 
 pub held-of : (m : List ℕ) (s : State) → m ≡ imageOf s → getD m scsiCountPlace 0 ≡ length (s .transfer .scsi)
-held-of m s e = ap (λ (l : List ℕ). getD l 23 0) e ∙ held-at s
+held-of m s e = ap (λ (l : List ℕ). getD l scsiCountPlace 0) e ∙ held-at s
 
-pub scsi-placed : {m n : List ℕ} (b : ℕ) (s : State) → getD m scsiCountPlace 0 < 8 → m ≡ imageOf s → n ≡ byteStored b m → n ≡ imageOf (withTransfer (storedB true b (s .transfer)) s)
+pub scsi-placed : {m n : List ℕ} (b : ℕ) (s : State) → getD m scsiCountPlace 0 < 8 → m ≡ imageOf s → n ≡ byteStored b m → n ≡ imageOf (storedB true b s)
 scsi-placed {m} b s h e f =
     let k : getD m scsiCountPlace 0 ≡ length (s .transfer .scsi) = held-of m s e in
     let i : length (s .transfer .scsi) < 8 = rw k at h in
     f ∙ ap (λ (j : ℕ). storedBehind j b m) k ∙ ap (λ (l : List ℕ). storedBehind (length (s .transfer .scsi)) b l) e ∙ scsi-set s b i
 
-stored-placed : {m n : List ℕ} (stored : Bool) (b : ℕ) (s : State) → (stored ≡ true → getD m scsiCountPlace 0 < 8) → m ≡ imageOf s → n ≡ cond stored (byteStored b m) m → n ≡ imageOf (withTransfer (storedB stored b (s .transfer)) s)
+stored-placed : {m n : List ℕ} (stored : Bool) (b : ℕ) (s : State) → (stored ≡ true → getD m scsiCountPlace 0 < 8) → m ≡ imageOf s → n ≡ cond stored (byteStored b m) m → n ≡ imageOf (storedB stored b s)
 stored-placed true b s h e f = scsi-placed b s (h refl) e f
 stored-placed false b s h e f = f ∙ e
 
 -- the offset and the automatic ACK in their places
-counted-set : (s : State) (zeroed counted released : Bool) {o : ℕ} {k : Bool} → o ≡ s .transfer .offset → k ≡ s .transfer .ack → set (set (imageOf s) offsetPlace (cond zeroed 0 (cond counted (o + 1) o))) ackPlace (one (not released && k)) ≡ imageOf (withTransfer (countedB zeroed counted released (s .transfer)) s)
+counted-set : (s : State) (zeroed counted released : Bool) {o : ℕ} {k : Bool} → o ≡ s .transfer .offset → k ≡ s .transfer .ack → set (set (imageOf s) offsetPlace (cond zeroed 0 (cond counted (o + 1) o))) ackPlace (one (not released && k)) ≡ imageOf (countedB zeroed counted released s)
 unfolding imageOf
 counted-set s zeroed counted released a b = rw (a, b)
 
-pub counted-placed : {m n : List ℕ} (zeroed counted released : Bool) (s : State) → m ≡ imageOf s → n ≡ countStored zeroed counted released m → n ≡ imageOf (withTransfer (countedB zeroed counted released (s .transfer)) s)
+pub counted-placed : {m n : List ℕ} (zeroed counted released : Bool) (s : State) → m ≡ imageOf s → n ≡ countStored zeroed counted released m → n ≡ imageOf (countedB zeroed counted released s)
 counted-placed zeroed counted released s e f =
     f ∙ ap (λ (l : List ℕ). countStored zeroed counted released l) e
     ∙ counted-set s zeroed counted released (offset-at s) (ack-at s)
 
 pub offset-of : (m : List ℕ) (s : State) → m ≡ imageOf s → getD m offsetPlace 0 ≡ s .transfer .offset
-offset-of m s e = ap (λ (l : List ℕ). getD l 17 0) e ∙ offset-at s
+offset-of m s e = ap (λ (l : List ℕ). getD l offsetPlace 0) e ∙ offset-at s
 
-pub room-after : {m : List ℕ} (stored : Bool) (b : ℕ) (s : State) → m ≡ imageOf (withTransfer (storedB stored b (s .transfer)) s) → s .transfer .offset < 8 → getD m offsetPlace 0 < 8
-room-after {m} stored b s e h = rw (offset-of m (withTransfer (storedB stored b (s .transfer)) s) e) h
+pub room-after : {m : List ℕ} (stored : Bool) (b : ℕ) (s : State) → m ≡ imageOf (storedB stored b s) → s .transfer .offset < 8 → getD m offsetPlace 0 < 8
+room-after {m} stored b s e h = rw (offset-of m (storedB stored b s) e) h
 
 -- the SCSI FIFO's part of the data path: a byte that is stored has a place
 module _ {g : Edges} {m : List ℕ} (byte : ℕ) (i : IsImage m) (room : Room g ((stateAt m) .transfer)) where
   pub place-of : g .stored ≡ true → getD m scsiCountPlace 0 < 8
   place-of h = rw (held-of m (stateAt m) (i .packed)) (room .stored h)
 
-  pub path-stored : {n : List ℕ} → n ≡ cond (g .stored) (byteStored byte m) m → n ≡ imageOf (withTransfer (storedB (g .stored) byte ((stateAt m) .transfer)) (stateAt m))
+  pub path-stored : {n : List ℕ} → n ≡ cond (g .stored) (byteStored byte m) m → n ≡ imageOf (storedB (g .stored) byte (stateAt m))
   path-stored = stored-placed (g .stored) byte (stateAt m) place-of (i .packed)
 
 -- both parts of the data path
-pub path-parts : (g : Edges) (byte : ℕ) (s : State) → imageOf (withTransfer (countedB (g .rstrises || g .free) (g .counted) (g .reqfalls || g .rstrises || g .free) (storedB (g .stored) byte (s .transfer))) s) ≡ imageOf (withTransfer (transferB g byte (s .transfer)) s)
+pub path-parts : (g : Edges) (byte : ℕ) (s : State) → imageOf (countedB (g .rstrises || g .free) (g .counted) (g .reqfalls || g .rstrises || g .free) (storedB (g .stored) byte s)) ≡ imageOf (transferB g byte s)
 unfolding transferB
 path-parts g byte s = refl
 
@@ -178,34 +167,34 @@ status-placed part s e f = f ∙ ap (λ (l : List ℕ). statusStored part l) e �
 
 pub quiet-placed : (m : List ℕ) (n : ℕ) (s : State) → m ≡ imageOf s → set m quietPlace n ≡ imageOf (withQuiet n s)
 unfolding imageOf
-quiet-placed m n s e = ap (λ (l : List ℕ). set l 20 n) e
+quiet-placed m n s e = ap (λ (l : List ℕ). set l quietPlace n) e
 
 -- one REQ more, and the automatic ACK released
-pub offset-placed : (m : List ℕ) (s : State) {offset : ℕ} → offset ≡ s .transfer .offset → m ≡ imageOf s → set m offsetPlace (offset + 1) ≡ imageOf (withTransfer (countedB false true false (s .transfer)) s)
+pub offset-placed : (m : List ℕ) (s : State) {offset : ℕ} → offset ≡ s .transfer .offset → m ≡ imageOf s → set m offsetPlace (offset + 1) ≡ imageOf (countedB false true false s)
 unfolding imageOf
-offset-placed m s e f = rw e (ap (λ (l : List ℕ). set l 17 (s .transfer .offset + 1)) f)
+offset-placed m s e f = rw e (ap (λ (l : List ℕ). set l offsetPlace (s .transfer .offset + 1)) f)
 
-pub ack-placed : (m : List ℕ) (s : State) → m ≡ imageOf s → set m ackPlace 0 ≡ imageOf (withTransfer (countedB false false true (s .transfer)) s)
+pub ack-placed : (m : List ℕ) (s : State) → m ≡ imageOf s → set m ackPlace 0 ≡ imageOf (countedB false false true s)
 unfolding imageOf
-ack-placed m s e = ap (λ (l : List ℕ). set l 18 0) e
+ack-placed m s e = ap (λ (l : List ℕ). set l ackPlace 0) e
 
 -- a state that its image reads back as, with another status or other quiet ticks
 status-read : (s : State) (t : Status) → stateAt (imageOf (withStatus t s)) ≡ withStatus t (stateAt (imageOf s))
 unfolding imageOf stateAt
-status-read s t = rw (status-round t)
+status-read s t = rw (status-back t)
 
-pub status-back : (s : State) (t : Status) → stateAt (imageOf s) ≡ s → stateAt (imageOf (withStatus t s)) ≡ withStatus t s
-status-back s t e = status-read s t ∙ ap (λ (x : State). withStatus t x) e
+pub status-kept : (s : State) (t : Status) → stateAt (imageOf s) ≡ s → stateAt (imageOf (withStatus t s)) ≡ withStatus t s
+status-kept s t e = status-read s t ∙ ap (λ (x : State). withStatus t x) e
 
 quiet-read : (s : State) (n : ℕ) → stateAt (imageOf (withQuiet n s)) ≡ withQuiet n (stateAt (imageOf s))
 unfolding imageOf stateAt
 quiet-read s n = refl
 
-pub quiet-back : (s : State) (n : ℕ) → stateAt (imageOf s) ≡ s → stateAt (imageOf (withQuiet n s)) ≡ withQuiet n s
-quiet-back s n e = quiet-read s n ∙ ap (λ (x : State). withQuiet n x) e
+pub quiet-kept : (s : State) (n : ℕ) → stateAt (imageOf s) ≡ s → stateAt (imageOf (withQuiet n s)) ≡ withQuiet n s
+quiet-kept s n e = quiet-read s n ∙ ap (λ (x : State). withQuiet n x) e
 
 pub packed-as : {n : List ℕ} (t : State) → n ≡ imageOf t → stateAt n ≡ t → n ≡ imageOf (stateAt n)
 packed-as t e f = e ∙ ap imageOf (sym f)
 
 pub status-again : {m n : List ℕ} {t : Status} → m ≡ imageOf (stateAt m) → n ≡ imageOf (withStatus t (stateAt m)) → stateAt n ≡ withStatus t (stateAt m)
-status-again {m} {n} {t} e f = ap stateAt f ∙ status-back (stateAt m) t (ap stateAt (sym e))
+status-again {m} {n} {t} e f = ap stateAt f ∙ status-kept (stateAt m) t (ap stateAt (sym e))

@@ -10,10 +10,11 @@ use lib.ListN.{length, getD}
 use Rattle.rules.specs.State.{State}
 use Rattle.rules.specs.Seen.{ioSeen, limit}
 use Rattle.rules.specs.StepB.{beyondLimit}
-use Rattle.image.specs.Image.{registersAt, linesAt}
+use Rattle.image.specs.Image.{stateAt}
 use Rattle.image.specs.Layout.{offsetPlace, scsiCountPlace}
 use Rattle.edges.specs.From.{synchronousReqFrom, edgesFrom}
 use Rattle.edges.specs.Room.{Room}
+use Rattle.edges.specs.Tests.{pastLimit}
 
 counted-room : (g a b : Bool) → (g && not (a || b)) ≡ true → a ≡ false
 counted-room g false b e = refl
@@ -42,12 +43,15 @@ module _ (rst req : Bool) (s : State) (ticks : ℕ) where
   room-from = record { counted = offset-room; stored = scsi-room }
 
 -- the same, of the bytes of an array
-module _ (m : List ℕ) {b : Bool} (e : b ≡ (leb (limit (registersAt m)) (getD m offsetPlace 0) || ((linesAt m) .io && leb 8 (getD m scsiCountPlace 0)))) (f : b ≡ false) where
-  pub count-left : getD m offsetPlace 0 < 8
-  unfolding limit
-  count-left =
-      omega (arith, leb-false (limit (registersAt m)) (getD m offsetPlace 0) (counted-room true _ ((linesAt m) .io && leb 8 (getD m scsiCountPlace 0)) (ap not (sym e ∙ f))))
+module _ (m : List ℕ) {b : Bool} (e : b ≡ pastLimit (getD m scsiCountPlace 0) (stateAt m)) (f : b ≡ false) where
+  abbrev s : State
+  s = stateAt m
 
-  pub place-left : (linesAt m) .io ≡ true → getD m scsiCountPlace 0 < 8
+  pub count-left : getD m offsetPlace 0 < 8
+  unfolding limit stateAt
+  count-left =
+      omega (arith, leb-false (limit (s .registers)) (s .transfer .offset) (counted-room true _ (ioSeen s && leb 8 (getD m scsiCountPlace 0)) (ap not (sym e ∙ f))))
+
+  pub place-left : ioSeen s ≡ true → getD m scsiCountPlace 0 < 8
   place-left h =
-      leb-false 8 (getD m scsiCountPlace 0) (stored-room true (leb (limit (registersAt m)) (getD m offsetPlace 0)) ((linesAt m) .io) (leb 8 (getD m scsiCountPlace 0)) (rw (← e, f) h))
+      leb-false 8 (getD m scsiCountPlace 0) (stored-room true (leb (limit (s .registers)) (s .transfer .offset)) (ioSeen s) (leb 8 (getD m scsiCountPlace 0)) (rw (← e, f) h))

@@ -1,20 +1,20 @@
 -- Where the bytes seen are the same and no tick came, B changes the quiet ticks alone.
 use Prim.Native.Nat.{ℕ, _+_, _<_, min}
 use mathlib.Core.Path.{_≡_, refl, ap, sym, _∙_}
-use mathlib.Core.Bool.{Bool, true, false, not, _&&_, _||_, cond}
+use mathlib.Core.Bool.{Bool, true, false, not, _&&_, cond}
 use mathlib.Core.List.{List}
 use native.Mathlib.Omega.{arith}
 use lib.Dec.{eqb, leb}
 use lib.ListN.{getD, set}
-use borrow.Author.Tests.{eqb-true, leb-true, leb-false, lt-leb}
+use borrow.Author.Tests.{eqb-true, leb-false, lt-leb}
 use Rattle.rules.specs.State.{State}
-use Rattle.rules.specs.Seen.{rstSeen, selSeen, bsySeen, reqSeen, connected, matched, mismatched, path, synchronous}
-use Rattle.rules.specs.StepB.{parityBad, beyondLimit, lateByte}
-use Rattle.edges.specs.Parts.{registersB, transferB, statusB}
+use Rattle.rules.specs.Seen.{rstSeen, selSeen, bsySeen, reqSeen, connected, matched, mismatched}
+use Rattle.rules.specs.StepB.{quietAfter}
+use Rattle.edges.specs.Components.{registersB, busyB, transferB, statusB}
 use Rattle.edges.specs.declared.edges.Edges.{Edges}
 use Rattle.rules.proofs.Logic.{left-true, right-true}
 use Rattle.rules.specs.Changed.{withQuiet}
-use Rattle.image.specs.Image.{imageOf, stateAt, registersAt, linesAt, IsImage}
+use Rattle.image.specs.Image.{imageOf, stateAt, IsImage}
 use Rattle.image.specs.Layout.{controlPlace, quietPlace, scsiseqPlace, scsisigPlace, upperPlace}
 use Rattle.edges.specs.declared.last.Seen.{Seen}
 use Rattle.edges.specs.From.{rstRisesFrom, reqRisesFrom, synchronousReqFrom, quietFrom, edgesFrom, appliedFrom}
@@ -23,15 +23,15 @@ use Rattle.edges.proofs.Placed.{quiet-placed}
 
 -- what is read off the four bytes of an array is what is seen there
 pub rst-of : (m : List ℕ) → rstOf (seenOf m) ≡ rstSeen (stateAt m)
-unfolding rstOf rstSeen
+unfolding rstOf rstSeen stateAt
 rst-of m = refl
 
 pub req-of : (m : List ℕ) → reqOf (seenOf m) ≡ reqSeen (stateAt m)
-unfolding reqOf
+unfolding reqOf stateAt
 req-of m = refl
 
 pub mismatched-of : (m : List ℕ) → mismatchedOf (seenOf m) ≡ mismatched (stateAt m)
-unfolding mismatchedOf mismatched connected matched bsySeen selSeen rstSeen
+unfolding mismatchedOf mismatched connected matched bsySeen selSeen rstSeen stateAt
 mismatched-of m = refl
 
 -- the four bytes, compared
@@ -86,12 +86,17 @@ module _ (s : State) where
   req = reqSeen s
 
   still : edgesFrom rst req s 0 ≡ stillAt (quietFrom rst s 0)
-  unfolding edgesFrom rstRisesFrom reqRisesFrom synchronousReqFrom quietFrom
-  still = rw (and-not rst, rises-not req (not rst), and-not req, stays (bsySeen (registersB false false false (s .registers)) (s .lines) || selSeen (registersB false false false (s .registers)) (s .lines)) (s .quiet))
+  unfolding edgesFrom rstRisesFrom reqRisesFrom synchronousReqFrom quietFrom quietAfter
+  still = rw (and-not rst, rises-not req (not rst), and-not req, stays (busyB false s) (s .quiet))
 
-  quiet-still : cond (bsySeen (registersB false false false (s .registers)) (s .lines) || selSeen (registersB false false false (s .registers)) (s .lines)) 0 (min 8 (s .quiet + 0)) ≡ quietFrom rst s 0
-  unfolding quietFrom rstRisesFrom
-  quiet-still = rw (and-not rst)
+  -- BSY or SEL seen zeroes the quiet ticks; those that nothing adds to stay
+  quiet-zeroed : busyB false s ≡ true → 0 ≡ quietFrom rst s 0
+  unfolding quietFrom quietAfter rstRisesFrom
+  quiet-zeroed b = rw (and-not rst, b)
+
+  quiet-left : busyB false s ≡ false → s .quiet ≡ min 8 (s .quiet + 0) → s .quiet ≡ quietFrom rst s 0
+  unfolding quietFrom quietAfter rstRisesFrom
+  quiet-left b e = rw (and-not rst, b) e
 
   unmoved : (q : ℕ) → appliedFrom (stillAt q) (mismatched s) s ≡ withQuiet q s
   unfolding appliedFrom registersB transferB statusB
@@ -108,34 +113,24 @@ module _ (m : List ℕ) (g : IsImage m) (x : Seen) (e : seenOf m ≡ x) {ticks :
   s = stateAt m
 
   rst-is : rstSeen s ≡ rstOf x
-  unfolding stateAt
   rst-is = sym (rst-of m) ∙ ap rstOf e
 
   req-is : reqSeen s ≡ reqOf x
-  unfolding stateAt
   req-is = sym (req-of m) ∙ ap reqOf e
 
   mismatched-is : mismatched s ≡ mismatchedOf x
-  unfolding stateAt
   mismatched-is = sym (mismatched-of m) ∙ ap mismatchedOf e
 
   pub seen-beyond : false ≡ (edgesFrom (rstOf x) (reqOf x) s ticks) .beyond
   seen-beyond = still-beyond s ∙ (λ i. (edgesFrom (rst-is i) (req-is i) s (sym t i)) .beyond)
 
-  pub seen-applied : {q : ℕ} → q ≡ cond (bsySeen (registersB false false false (registersAt m)) (linesAt m) || selSeen (registersB false false false (registersAt m)) (linesAt m)) 0 (min 8 (getD m quietPlace 0 + 0)) → set m quietPlace q ≡ imageOf (appliedFrom (edgesFrom (rstOf x) (reqOf x) s ticks) (mismatchedOf x) s)
-  unfolding stateAt
-  seen-applied {q} h =
-      quiet-placed m q s (g .packed)
-      ∙ ap (λ (n : ℕ). imageOf (withQuiet n s)) (h ∙ quiet-still s)
-      ∙ ap imageOf (sym (still-applied s))
+  applied-is : {q : ℕ} → q ≡ quietFrom (rstSeen s) s 0 → imageOf (withQuiet q s) ≡ imageOf (appliedFrom (edgesFrom (rstOf x) (reqOf x) s ticks) (mismatchedOf x) s)
+  applied-is h =
+      ap (λ (n : ℕ). imageOf (withQuiet n s)) h ∙ ap imageOf (sym (still-applied s))
       ∙ (λ i. imageOf (appliedFrom (edgesFrom (rst-is i) (req-is i) s (sym t i)) (mismatched-is i) s))
 
-  -- quiet ticks that nothing adds to stay
-  pub seen-unchanged : (bsySeen (registersB false false false (registersAt m)) (linesAt m) || selSeen (registersB false false false (registersAt m)) (linesAt m)) ≡ false → m ≡ imageOf (appliedFrom (edgesFrom (rstOf x) (reqOf x) s ticks) (mismatchedOf x) s)
-  unfolding stateAt
-  seen-unchanged h =
-      let q : getD m quietPlace 0 ≡ min 8 (getD m quietPlace 0 + 0) = omega (arith, g .range .quiet) in
-      g .packed
-      ∙ ap (λ (n : ℕ). imageOf (withQuiet n s)) (rw h q ∙ quiet-still s)
-      ∙ ap imageOf (sym (still-applied s))
-      ∙ (λ i. imageOf (appliedFrom (edgesFrom (rst-is i) (req-is i) s (sym t i)) (mismatched-is i) s))
+  pub seen-quieted : busyB false s ≡ true → set m quietPlace 0 ≡ imageOf (appliedFrom (edgesFrom (rstOf x) (reqOf x) s ticks) (mismatchedOf x) s)
+  seen-quieted b = quiet-placed m 0 s (g .packed) ∙ applied-is (quiet-zeroed s b)
+
+  pub seen-unchanged : busyB false s ≡ false → m ≡ imageOf (appliedFrom (edgesFrom (rstOf x) (reqOf x) s ticks) (mismatchedOf x) s)
+  seen-unchanged b = g .packed ∙ applied-is (quiet-left s b (omega (arith, g .range .quiet)))

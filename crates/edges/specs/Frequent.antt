@@ -1,12 +1,12 @@
 -- What B changes while RST does not rise, no parity error comes and the bus does not become free, part by part.
 use mathlib.Core.Bool.{Bool, false, not, _&&_, _||_}
 use Rattle.rules.specs.State.{State}
-use Rattle.rules.specs.Seen.{matched, mismatched, path, synchronous}
+use Rattle.rules.specs.Seen.{ioSeen, reqSeen, matched, mismatched, path, synchronous}
 use Rattle.rules.specs.StepB.{beyondLimit, lateByte}
 use Rattle.rules.specs.declared.chip.Status.{Status}
-use Rattle.rules.specs.Changed.{withTransfer, withStatus}
+use Rattle.rules.specs.Changed.{withStatus}
 use Rattle.edges.specs.From.{reqRisesFrom, synchronousReqFrom}
-use Rattle.edges.specs.Parts.{storedB, countedB}
+use Rattle.edges.specs.Components.{storedB, countedB}
 
 -- PHASECHG, REQINIT and SYNCERR set
 abbrev pub raisedB : Bool → Bool → Bool → Status → Status
@@ -29,7 +29,7 @@ phaseB was s = withStatus (raisedB (mismatched s && not was) false false (s .sta
 -- "inbound with offset 0 and the SCSI FIFO not empty sets SYNCERR"; "an inbound byte is stored"
 abbrev pub inboundB : Bool → State → State
 inboundB counted s =
-    withStatus (raisedB false false (counted && lateByte s) (s .status)) (withTransfer (storedB (counted && s .lines .io) (s .lines .byte) (s .transfer)) s)
+    withStatus (raisedB false false (counted && lateByte s) (s .status)) (storedB (counted && ioSeen s) (s .lines .byte) s)
 
 -- "If matched, path and synchronous"
 abbrev pub callB : State → Bool
@@ -38,15 +38,14 @@ callB s = matched s && path (s .registers) && synchronous s
 -- a synchronous REQ: beyond the limit it is not counted
 abbrev pub risenB : Bool → State → State
 risenB call s =
-    let n = inboundB (call && not (beyondLimit s)) s in
-    withTransfer (countedB false (call && not (beyondLimit s)) false (n .transfer)) n
+    countedB false (call && not (beyondLimit s)) false (inboundB (call && not (beyondLimit s)) s)
 
 -- "REQ falls: automatic ACK is released"; "REQ rises and RST not seen: REQINIT is set"
 abbrev pub releasedB : Bool → State → State
-releasedB falls s = withTransfer (countedB false false falls (s .transfer)) s
+releasedB falls s = countedB false false falls s
 
 abbrev pub initB : Bool → State → State
 initB rises s = withStatus (raisedB false rises false (s .status)) s
 
 unfoldable pub reqB : Bool → State → State
-reqB was s = risenB (synchronousReqFrom was s) (initB (reqRisesFrom was s) (releasedB (was && not (s .lines .req)) s))
+reqB was s = risenB (synchronousReqFrom was s) (initB (reqRisesFrom was s) (releasedB (was && not (reqSeen s)) s))

@@ -1,10 +1,11 @@
 -- Step B, where of the state at the end of the last event only RST, REQ and the mismatch that were seen are known.
-use Prim.Native.Nat.{ℕ, _+_, min}
-use mathlib.Core.Bool.{Bool, false, not, _&&_, _||_, cond}
+use Prim.Native.Nat.{ℕ}
+use mathlib.Core.Bool.{Bool, not, _&&_}
 use Rattle.rules.specs.State.{State}
-use Rattle.rules.specs.Seen.{rstSeen, selSeen, bsySeen, ioSeen, reqSeen, matched, mismatched, path, synchronous, dataSeen}
-use Rattle.rules.specs.StepB.{parityBad, beyondLimit, lateByte}
-use Rattle.edges.specs.Parts.{registersB, transferB, statusB}
+use Rattle.rules.specs.Seen.{rstSeen, ioSeen, reqSeen, matched, mismatched, path, synchronous, dataSeen}
+use Rattle.rules.specs.StepB.{parityBad, beyondLimit, lateByte, quietAfter}
+use Rattle.rules.specs.Changed.{withRegisters, withStatus, withQuiet}
+use Rattle.edges.specs.Components.{resetB, registersB, transferB, statusB}
 use Rattle.edges.specs.declared.edges.Edges.{Edges}
 use lib.Dec.{leb}
 
@@ -20,9 +21,7 @@ synchronousReqFrom req now =
     && synchronous now
 
 unfoldable pub quietFrom : Bool → State → ℕ → ℕ
-quietFrom rst now ticks =
-    let r = registersB (rstRisesFrom rst now) false false (now .registers) in
-    cond (bsySeen r (now .lines) || selSeen r (now .lines)) 0 (min 8 (now .quiet + ticks))
+quietFrom rst now ticks = quietAfter ticks (resetB (rstRisesFrom rst now) now)
 
 -- the edges, by RST and REQ as they were
 unfoldable pub edgesFrom : Bool → Bool → State → ℕ → Edges
@@ -43,14 +42,5 @@ edgesFrom rst req now ticks =
 -- the state after B, by the mismatch as it was
 unfoldable pub appliedFrom : Edges → Bool → State → State
 appliedFrom g was now =
-    let r = registersB (g .rstrises) (g .paritybad) (g .free) (now .registers) in
-    record {
-      lines = now .lines;
-      registers = r;
-      transfer = transferB g (dataSeen now) (now .transfer);
-      status = statusB g (mismatched r (now .lines) && not was) (now .status);
-      latches = now .latches;
-      stack = now .stack;
-      quiet = g .quiet;
-      identity = now .identity;
-    }
+    let n = withRegisters (registersB (g .rstrises) (g .paritybad) (g .free) (now .registers)) (transferB g (dataSeen now) now) in
+    withQuiet (g .quiet) (withStatus (statusB g (mismatched n && not was) (now .status)) n)

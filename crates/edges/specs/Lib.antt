@@ -1,7 +1,7 @@
 pub mod Room
-pub mod Inbound
+pub mod Tests
 pub mod From
-pub mod Parts
+pub mod Components
 pub mod Stored
 pub mod Frequent
 pub mod Since

@@ -4,7 +4,7 @@ use mathlib.Core.Bool.{Bool}
 use mathlib.Core.List.{List}
 use lib.ListN.{getD, set, replicate}
 use Rattle.rules.specs.Seen.{rstSeen, reqSeen, mismatched}
-use Rattle.image.specs.Image.{registersAt, linesAt, stateAt}
+use Rattle.image.specs.Image.{stateAt}
 use Rattle.image.specs.Layout.{controlPlace, imageSize, scsiseqPlace, scsisigPlace, upperPlace}
 use Rattle.edges.specs.declared.last.Seen.{Seen}
 
@@ -13,7 +13,8 @@ seenOf m = record { seq = getD m scsiseqPlace 0; sig = getD m scsisigPlace 0; up
 
 -- an array with nothing else in it
 abbrev pub spread : Seen → List ℕ
-spread x = set (set (set (set (replicate imageSize 0) 0 (x .seq)) 3 (x .sig)) 15 (x .upper)) 16 (x .control)
+spread x =
+    set (set (set (set (replicate imageSize 0) scsiseqPlace (x .seq)) scsisigPlace (x .sig)) upperPlace (x .upper)) controlPlace (x .control)
 
 unfoldable pub rstOf : Seen → Bool
 rstOf x = rstSeen (stateAt (spread x))

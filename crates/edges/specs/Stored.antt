@@ -7,7 +7,7 @@ use lib.ListN.{getD, set}
 use Rattle.rules.specs.Numbers.{one}
 use Rattle.rules.specs.Registers.{scsiseqOf, scsiseqByte, sxfrctl0Of, sxfrctl0Byte, scsisigOf}
 use Rattle.rules.specs.declared.chip.Status.{Status}
-use Rattle.edges.specs.Parts.{scsiseqB, sxfrctl0B, scsisigB}
+use Rattle.edges.specs.Components.{scsiseqB, sxfrctl0B, scsisigB}
 use Rattle.image.specs.Image.{scsisigByte, statusOf, statusByte}
 use Rattle.image.specs.Layout.{ackPlace, offsetPlace, scsiBytesPlace, scsiCountPlace, scsiseqPlace, scsisigPlace, statusPlace, sxfrctl0Place}
 
@@ -17,7 +17,7 @@ registersStored reset bad free m =
     let q = scsiseqOf (getD m scsiseqPlace 0) in
     let x = sxfrctl0Of (getD m sxfrctl0Place 0) in
     let g = scsisigOf false (getD m scsisigPlace 0) in
-    set (set (set m scsiseqPlace (scsiseqByte (scsiseqB reset q))) sxfrctl0Place (sxfrctl0Byte (sxfrctl0B reset x))) 3
+    set (set (set m scsiseqPlace (scsiseqByte (scsiseqB reset q))) sxfrctl0Place (sxfrctl0Byte (sxfrctl0B reset x))) scsisigPlace
     (scsisigByte (scsisigB (reset || free) (bad && q .enautoatnp) g))
 
 -- a byte behind those of the SCSI FIFO

@@ -2,18 +2,18 @@
 ghost use mathlib.Core.Path.{_≡_};
 ghost use mathlib.Core.Bool.{true, false, not, _&&_, _||_, cond};
 ghost use Prim.Native.Nat.{_+_, _<_};
-ghost use lib.Dec.{eqb};
 ghost use lib.ListN.{getD};
 ghost use Rattle.rules.specs.Numbers.{one};
 ghost use Rattle.rules.specs.Registers.{scsiseqOf, scsiseqByte, sxfrctl0Of, sxfrctl0Byte, scsisigOf};
 ghost use Rattle.rules.specs.Seen.{dataSeen};
-ghost use Rattle.rules.specs.Changed.{withTransfer};
-ghost use Rattle.image.specs.Image.{imageOf, stateAt, registersAt, linesAt, transferAt, IsImage, scsisigByte, statusOf, statusByte};
-ghost use Rattle.edges.specs.Parts.{scsiseqB, sxfrctl0B, scsisigB, transferB, statusB};
+ghost use Rattle.image.specs.Image.{imageOf, stateAt, IsImage, scsisigByte, statusOf, statusByte};
+ghost use Rattle.edges.specs.Components.{scsiseqB, sxfrctl0B, scsisigB, transferB, statusB};
 ghost use Rattle.edges.specs.Room.{Room};
 ghost use Rattle.edges.specs.Stored.{registersStored, byteStored, countStored, statusStored};
 ghost use Rattle.image.specs.Layout.{offsetPlace, scsiCountPlace};
 use crate::edges::Edges;
+use image::bits::automatic_ack;
+use image::bits::enautoatnp;
 use image::bus::data_seen;
 use image::bytes::scsisig_byte;
 use image::bytes::status_byte;
@@ -105,7 +105,7 @@ fn scsisig_after(zeroed: bool, attention: bool, v: u8) -> u8
 fn registers_stored(m: &mut Image, reset: bool, bad: bool, free: bool)
     ensures { λ _. ⌜ now (m .exit) ≡ registersStored reset bad free (now (m .entry)) ⌝ }
 {
-    let attention = bad & ((m[SCSISEQ] >> 1) % 2 == 1);
+    let attention = bad & enautoatnp(m);
     let q = scsiseq_after(reset, m[SCSISEQ]);
     let x = sxfrctl0_after(reset, m[SXFRCTL0]);
     let g = scsisig_after(reset | free, attention, m[SCSISIG]);
@@ -162,10 +162,10 @@ fn offset_b(zeroed: bool, counted: bool, offset: u8) -> u8
     if counted { offset + 1 } else { offset }
 }
 
-fn ack_b(released: bool, ack: u8) -> u8
-    ensures { λ n. ⌜ n ≡ one (not released && eqb ack 1) ⌝ }
+fn ack_b(released: bool, ack: bool) -> u8
+    ensures { λ n. ⌜ n ≡ one (not released && ack) ⌝ }
 {
-    (!released & (ack == 1)) as u8
+    (!released & ack) as u8
 }
 
 // "offset goes up one"; "automatic ACK is released"
@@ -174,7 +174,7 @@ fn counted_in(m: &mut Image, zeroed: bool, counted: bool, released: bool)
     ensures { λ _. ⌜ now (m .exit) ≡ countStored zeroed counted released (now (m .entry)) ⌝ }
 {
     let offset = offset_b(zeroed, counted, m[OFFSET]);
-    let ack = ack_b(released, m[ACK]);
+    let ack = ack_b(released, automatic_ack(m));
     m[OFFSET] = offset;
     m[ACK] = ack;
 }
@@ -183,7 +183,7 @@ fn counted_in(m: &mut Image, zeroed: bool, counted: bool, released: bool)
 pub fn path_in(m: &mut Image, g: Edges, byte: u8)
     requires { ⌜ IsImage (now m) ⌝ }
     requires { ⌜ Room g ((stateAt (now m)) .transfer) ⌝ }
-    ensures { λ _. ⌜ now (m .exit) ≡ imageOf (withTransfer (transferB g byte ((stateAt (now (m .entry))) .transfer)) (stateAt (now (m .entry)))) ⌝ }
+    ensures { λ _. ⌜ now (m .exit) ≡ imageOf (transferB g byte (stateAt (now (m .entry)))) ⌝ }
 {
     scsi_in(m, g.stored, byte);
     counted_in(

@@ -1,15 +1,16 @@
 // Step B, "Edges, in this order", over the chip in the bytes of one array.
 ghost use mathlib.Core.Path.{_≡_};
 ghost use Rattle.rules.specs.Seen.{rstSeen, reqSeen, mismatched};
-ghost use Rattle.image.specs.Image.{registersAt, linesAt, imageOf, stateAt, IsImage};
+ghost use Rattle.image.specs.Image.{imageOf, stateAt, IsImage};
 ghost use Rattle.edges.specs.From.{edgesFrom, appliedFrom};
 ghost use Rattle.edges.specs.Room.{Room};
 use crate::edges::Edges;
 use crate::last::Before;
+use image::bus::io_seen;
 use image::bus::mismatched;
+use image::bus::req_seen;
 use image::bus::rst_seen;
 use image::layout::Image;
-use image::layout::LINES_CONTROL;
 use image::layout::QUIET;
 
 mod after;
@@ -27,7 +28,7 @@ fn last_seen(m: &Image) -> Before
 {
     Before {
         rst: rst_seen(m),
-        req: (m[LINES_CONTROL] >> 1) % 2 == 1,
+        req: req_seen(m),
         mismatched: mismatched(m),
     }
 }
@@ -45,13 +46,13 @@ fn edges_of(m: &Image, was: Before, ticks: u32) -> Edges
     let late = found::late_byte(m, req & !beyond);
     let quiet = found::quiet_after(m, reset, ticks);
     Edges {
-        reqfalls: was.req & !((m[LINES_CONTROL] >> 1) % 2 == 1),
+        reqfalls: was.req & !req_seen(m),
         rstrises: reset,
         reqrises: rises,
         paritybad: bad,
         beyond: beyond,
         counted: req & !beyond,
-        stored: req & !beyond & ((m[LINES_CONTROL] >> 6) % 2 == 1),
+        stored: req & !beyond & io_seen(m),
         late: late,
         free: (8 <= quiet) & !(8 <= m[QUIET]),
         quiet: quiet,

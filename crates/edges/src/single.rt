@@ -3,8 +3,9 @@ ghost use mathlib.Core.Path.{_≡_};
 ghost use mathlib.Core.Bool.{true, false, _&&_};
 ghost use Prim.Native.Nat.{_<_};
 ghost use lib.ListN.{getD};
+ghost use Rattle.rules.specs.Seen.{ioSeen};
 ghost use Rattle.rules.specs.StepB.{beyondLimit};
-ghost use Rattle.image.specs.Image.{imageOf, stateAt, linesAt};
+ghost use Rattle.image.specs.Image.{imageOf, stateAt};
 ghost use Rattle.edges.specs.From.{synchronousReqFrom};
 ghost use Rattle.edges.specs.Frequent.{raisedB, phaseB, inboundB, callB, risenB, reqB};
 ghost use Rattle.edges.specs.Stored.{statusStored};
@@ -12,13 +13,14 @@ ghost use Rattle.image.specs.Layout.{scsiCountPlace};
 use crate::after::byte_stored;
 use crate::found::beyond_limit;
 use crate::found::synchronous_req;
+use image::bus::io_seen;
 use image::bus::mismatched;
+use image::bus::req_seen;
 use image::bus::rst_seen;
 use image::bytes::status_byte;
 use image::bytes::status_of;
 use image::layout::ACK;
 use image::layout::Image;
-use image::layout::LINES_CONTROL;
 use image::layout::LINES_DATA;
 use image::layout::OFFSET;
 use image::layout::SCSI_COUNT;
@@ -52,10 +54,10 @@ pub fn phase_in(m: &mut Image, was: bool)
 // An inbound byte, SYNCERR where it is late: while IO is seen the chip drives no data, so it is the byte of others.
 fn inbound_in(m: &mut Image)
     requires { ⌜ now m ≡ imageOf (stateAt (now m)) ⌝ }
-    requires { ⌜ ((linesAt (now m)) .io ≡ true → getD (now m) scsiCountPlace 0 < 8) ⌝ }
+    requires { ⌜ (ioSeen (stateAt (now m)) ≡ true → getD (now m) scsiCountPlace 0 < 8) ⌝ }
     ensures { λ _. ⌜ now (m .exit) ≡ imageOf (inboundB true (stateAt (now (m .entry)))) ⌝ }
 {
-    if !((m[LINES_CONTROL] >> 6) % 2 == 1) {
+    if !io_seen(m) {
         return;
     }
     let late = (m[OFFSET] == 0) & (0 < m[SCSI_COUNT]);
@@ -90,7 +92,7 @@ pub fn req_in(m: &mut Image, was: bool) -> bool
     ensures { λ b. ⌜ b ≡ (synchronousReqFrom was (stateAt (now (m .entry))) && beyondLimit (stateAt (now (m .entry)))) ⌝ }
     ensures { λ _. ⌜ now (m .exit) ≡ imageOf (reqB was (stateAt (now (m .entry)))) ⌝ }
 {
-    let req = (m[LINES_CONTROL] >> 1) % 2 == 1;
+    let req = req_seen(m);
     if req == was {
         return false;
     }

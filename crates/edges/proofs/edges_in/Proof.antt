@@ -1,5 +1,6 @@
 use borrow.Author.Needs.{needs}
-use Rattle.edges.proofs.InTurn.{no-reset, quiet-is, no-error, not-free, quieted, phased-packed, beyond-is, all-parts}
+use mathlib.Core.Path.{sym, _∙_}
+use Rattle.edges.proofs.InTurn.{quiet-is, no-error, not-free, quieted, phased-packed, beyond-is, all-parts}
 use Rattle.edges.proofs.edges_in.Statement.{statement}
 use Rattle.edges.proofs.edges_in.Tie as tie
 
@@ -28,7 +29,7 @@ returns-4 c =
     let a = start .args in
     let m = a .m .now in
     let w = a .was in
-    let off = no-reset m (w .rst) (w .req) (a .ticks) (reset .before .rst-rises .ensures) (reset .if1 .left) in
+    let off = sym (reset .before .rst-rises .ensures) ∙ reset .if1 .left in
     let q = quiet .quiet-after .result in
     let is = quiet-is m (w .rst) (w .req) (a .ticks) off (quiet .quiet-after .ensures) in
     let then = phased .phase-in .ensures in (

@@ -1,6 +1,13 @@
 use borrow.Author.Needs.{needs}
+use Rattle.image.specs.Image.{stateAt}
 use Rattle.edges.proofs.after.counted_in.Statement.{statement}
 use Rattle.edges.proofs.after.counted_in.Tie as tie
 
+returns : tie.Need-returns
+unfolding stateAt
+returns c =
+    let looked = c .before in
+    rw (c .ack-b .ensures, looked .automatic-ack .ensures, looked .before .before .offset-b .ensures)
+
 pub counted-in-spec : {M : Type 1} → statement M
-counted-in-spec = tie.close (tie.spec (λ c. search needs) (λ c κs. search needs) (λ c. search needs) (λ c κs. search needs) (λ c. search needs) (λ c. search needs) (λ c. rw (c .ack-b .ensures, c .before .before .offset-b .ensures)))
+counted-in-spec = tie.close (tie.spec (λ c. search needs) (λ c κs. search needs) (λ c κs. search needs) (λ c κs. search needs) (λ c. search needs) (λ c. search needs) returns)

@@ -1,8 +1,7 @@
 use mathlib.Core.Path.{_∙_}
 use mathlib.Core.Bool.{_||_}
-use Rattle.rules.specs.Changed.{withTransfer}
 use Rattle.image.specs.Image.{stateAt}
-use Rattle.edges.specs.Parts.{storedB}
+use Rattle.edges.specs.Components.{storedB}
 use Rattle.edges.proofs.Placed.{place-of, path-stored, room-after, counted-placed, path-parts}
 use Rattle.edges.proofs.after.path_in.Statement.{statement}
 use Rattle.edges.proofs.after.path_in.Tie as tie
@@ -27,7 +26,7 @@ returns c =
     let b = start .args .byte in
     let s = stateAt (start .args .m .now) in
     counted-placed (g .rstrises || g .free) (g .counted) (g .reqfalls || g .rstrises || g .free)
-    (withTransfer (storedB (g .stored) b (s .transfer)) s) (path-stored b (start .pre .0) (start .pre .1) (q .scsi-in .ensures)) (c .counted-in .ensures)
+    (storedB (g .stored) b s) (path-stored b (start .pre .0) (start .pre .1) (q .scsi-in .ensures)) (c .counted-in .ensures)
     ∙ path-parts g b s
 
 pub path-in-spec : {M : Type 1} → statement M

@@ -1,7 +1,7 @@
 use borrow.Author.Needs.{needs}
 use mathlib.Core.Path.{ap, _∙_}
 use Rattle.rules.specs.Registers.{scsiseqByte}
-use Rattle.edges.specs.Parts.{scsiseqB}
+use Rattle.edges.specs.Components.{scsiseqB}
 use Rattle.rules.specs.declared.registers.Scsiseq.{Scsiseq}
 use Rattle.edges.proofs.after.scsiseq_after.Statement.{statement}
 use Rattle.edges.proofs.after.scsiseq_after.Tie as tie

@@ -1,7 +1,7 @@
 use borrow.Author.Needs.{needs}
 use mathlib.Core.Path.{ap, _∙_}
 use Rattle.image.specs.Image.{statusByte}
-use Rattle.edges.specs.Parts.{statusB}
+use Rattle.edges.specs.Components.{statusB}
 use Rattle.rules.specs.declared.chip.Status.{Status}
 use Rattle.edges.proofs.after.status_after.Statement.{statement}
 use Rattle.edges.proofs.after.status_after.Tie as tie

@@ -1,5 +1,5 @@
 use borrow.Author.Needs.{needs}
-use Rattle.edges.specs.Parts.{statusB}
+use Rattle.edges.specs.Components.{statusB}
 use Rattle.edges.proofs.after.status_b.Statement.{statement}
 use Rattle.edges.proofs.after.status_b.Tie as tie
 

@@ -1,7 +1,7 @@
 use borrow.Author.Needs.{needs}
 use mathlib.Core.Path.{ap, _∙_}
 use Rattle.rules.specs.Registers.{sxfrctl0Byte}
-use Rattle.edges.specs.Parts.{sxfrctl0B}
+use Rattle.edges.specs.Components.{sxfrctl0B}
 use Rattle.rules.specs.declared.registers.Sxfrctl0.{Sxfrctl0}
 use Rattle.edges.proofs.after.sxfrctl0_after.Statement.{statement}
 use Rattle.edges.proofs.after.sxfrctl0_after.Tie as tie

@@ -1,13 +1,18 @@
 use borrow.Author.Needs.{needs}
-use Rattle.image.specs.Image.{registersAt, linesAt}
-use Rattle.edges.proofs.Laws.{busy-after}
+use Rattle.image.specs.Image.{stateAt}
+use Rattle.edges.proofs.Laws.{busy-reset, busy-unreset}
 use Rattle.edges.proofs.found.busy.Statement.{statement}
 use Rattle.edges.proofs.found.busy.Tie as tie
 
 returns : tie.Need-returns
 returns c =
-    let a = c .before .before .before .before .args in
-    busy-after (a .reset) (registersAt (a .m .now)) (linesAt (a .m .now))
+    let start = c .before .before .before in
+    rw (c .before .before .if1 .taken, c .sel-driven-by-others .ensures, c .before .bsy-driven-by-others .ensures) (busy-reset (stateAt (start .args .m .now)))
+
+returns-2 : tie.Need-returns-2
+returns-2 c =
+    let start = c .before .before .before in
+    rw (c .before .before .if1 .left, c .sel-seen .ensures, c .before .bsy-seen .ensures) (busy-unreset (stateAt (start .args .m .now)))
 
 pub busy-spec : {M : Type 1} → statement M
-busy-spec = tie.close (tie.spec (λ c. search needs) (λ c. search needs) (λ c. search needs) (λ c. search needs) returns)
+busy-spec = tie.close (tie.spec (λ c κs. search needs) (λ c κs. search needs) (λ c κs. search needs) (λ c κs. search needs) returns returns-2)

@@ -1,11 +1,11 @@
 use borrow.Author.Needs.{needs}
-use mathlib.Core.Path.{_≡_, sym, _∙_}
+use mathlib.Core.Path.{sym, _∙_}
 use lib.Dec.{eqb}
 use borrow.Author.Tests.{eqb-true}
 use Rattle.rules.proofs.Logic.{left-true, right-true}
 use Rattle.image.specs.Image.{imageOf, stateAt}
 use Rattle.edges.specs.From.{edgesFrom, appliedFrom}
-use Rattle.edges.proofs.Still.{same-bytes, seen-beyond, seen-applied, seen-unchanged}
+use Rattle.edges.proofs.Still.{same-bytes, seen-beyond, seen-quieted, seen-unchanged}
 use Rattle.edges.proofs.since.edges_since.Statement.{statement}
 use Rattle.edges.proofs.since.edges_since.Tie as tie
 
@@ -20,7 +20,7 @@ returns c =
     let ticks = start .args .ticks in
     let e = same-bytes m x (sym (same .is-same .ensures) ∙ left-true (same .is-same .result) (eqb ticks 0) (first .if1 .taken)) in
     let t = eqb-true ticks 0 (right-true (same .is-same .result) (eqb ticks 0) (first .if1 .taken)) in
-    (seen-beyond m (start .pre) x e t, seen-applied m (start .pre) x e t (rw (sym (looked .busy .ensures) ∙ c .if2 .taken)))
+    (seen-beyond m (start .pre) x e t, seen-quieted m (start .pre) x e t (sym (looked .busy .ensures) ∙ c .if2 .taken))
 
 returns-2 : tie.Need-returns-2
 returns-2 c =

@@ -1,8 +1,10 @@
 -- What B changes by its edges, component by component.
 use Prim.Native.Nat.{ℕ, _+_}
-use mathlib.Core.Bool.{Bool, not, _&&_, _||_, cond}
+use mathlib.Core.Bool.{Bool, false, not, _&&_, _||_, cond}
 use mathlib.Core.List.{[], _∷_, _++_}
-use Rattle.rules.specs.State.{Transfer}
+use Rattle.rules.specs.State.{State}
+use Rattle.rules.specs.Seen.{bsySeen, selSeen}
+use Rattle.rules.specs.Changed.{withRegisters, withScsi, withOffset, withAck}
 use Rattle.rules.specs.declared.registers.Scsiseq.{Scsiseq}
 use Rattle.rules.specs.declared.registers.Sxfrctl0.{Sxfrctl0}
 use Rattle.rules.specs.declared.registers.Scsisig.{Scsisig}
@@ -60,41 +62,27 @@ registersB reset bad free r =
       brstcntrl = r .brstcntrl;
     }
 
+-- the state with the registers that a bus reset leaves, and whether BSY or SEL is seen then
+abbrev pub resetB : Bool → State → State
+resetB reset s = withRegisters (registersB reset false false (s .registers)) s
+
+abbrev pub busyB : Bool → State → Bool
+busyB reset s = bsySeen (resetB reset s) || selSeen (resetB reset s)
+
 -- "an inbound byte is stored"
-abbrev pub storedB : Bool → ℕ → Transfer → Transfer
-storedB stored byte t =
-    record {
-      host = t .host;
-      scsi = cond stored (t .scsi ++ (byte ∷ [])) (t .scsi);
-      counter = t .counter;
-      offset = t .offset;
-      ack = t .ack;
-      last = t .last;
-    }
+abbrev pub storedB : Bool → ℕ → State → State
+storedB stored byte s = withScsi (cond stored (s .transfer .scsi ++ (byte ∷ [])) (s .transfer .scsi)) s
 
 -- "offset goes up one"; "automatic ACK is released"
-abbrev pub countedB : Bool → Bool → Bool → Transfer → Transfer
-countedB zeroed counted released t =
-    record {
-      host = t .host;
-      scsi = t .scsi;
-      counter = t .counter;
-      offset = cond zeroed 0 (cond counted (t .offset + 1) (t .offset));
-      ack = not released && t .ack;
-      last = t .last;
-    }
+abbrev pub countedB : Bool → Bool → Bool → State → State
+countedB zeroed counted released s =
+    withAck (not released && s .transfer .ack)
+    (withOffset (cond zeroed 0 (cond counted (s .transfer .offset + 1) (s .transfer .offset))) s)
 
 -- "offset goes up one and an inbound byte is stored"; "automatic ACK is released"; "FIFOs and counter stay."
-unfoldable pub transferB : Edges → ℕ → Transfer → Transfer
-transferB g byte t =
-    record {
-      host = t .host;
-      scsi = cond (g .stored) (t .scsi ++ (byte ∷ [])) (t .scsi);
-      counter = t .counter;
-      offset = cond (g .rstrises || g .free) 0 (cond (g .counted) (t .offset + 1) (t .offset));
-      ack = not (g .reqfalls || g .rstrises || g .free) && t .ack;
-      last = t .last;
-    }
+unfoldable pub transferB : Edges → ℕ → State → State
+transferB g byte s =
+    countedB (g .rstrises || g .free) (g .counted) (g .reqfalls || g .rstrises || g .free) (storedB (g .stored) byte s)
 
 -- the status, where the phase changed or not
 unfoldable pub statusB : Edges → Bool → Status → Status
