@@ -21,7 +21,7 @@ pub image-split : (s : State) → imageOf s ≡ frontOf s ++ padded 128 (s .tran
 unfolding imageOf
 image-split s = refl
 
-pub front-length : (s : State) → Placed s → length (frontOf s) ≡ 68
+pub front-length : (s : State) → Placed s → length (frontOf s) ≡ hostBytesPlace
 front-length s p =
     let e : length (padded 8 (s .transfer .scsi)) ≡ 8 = padded-length 8 (s .transfer .scsi) (p .scsi) in
     simp length-append (omega (arith, e, p .stack))
@@ -31,7 +31,7 @@ unfolding imageOf
 host-count s = refl
 
 -- the count of another list, with its bytes
-pub host-image : (s : State) (l : List ℕ) → set (frontOf s ++ padded 128 l) 24 (length l) ≡ imageOf (withHost l s)
+pub host-image : (s : State) (l : List ℕ) → set (frontOf s ++ padded 128 l) hostCountPlace (length l) ≡ imageOf (withHost l s)
 unfolding imageOf
 host-image s l = refl
 
@@ -43,7 +43,7 @@ set-past (a ∷ x) q i b = rw (suc-add (length x) i, set-past x q i b)
 pub host-pushed : (s : State) (b : ℕ) → Placed s → length (s .transfer .host) < 128 → set (set (imageOf s) (hostBytesPlace + length (s .transfer .host)) b) hostCountPlace (length (s .transfer .host) + 1) ≡ imageOf (withHost (s .transfer .host ++ (b ∷ [])) s)
 host-pushed s b p h =
     let l : List ℕ = s .transfer .host in
-    let f : length (frontOf s) ≡ 68 = front-length s p in
+    let f : length (frontOf s) ≡ hostBytesPlace = front-length s p in
     let n : length l + 1 ≡ length (l ++ (b ∷ [])) = sym (length-append l (b ∷ [])) in
     let e : set (imageOf s) (hostBytesPlace + length l) b ≡ frontOf s ++ padded 128 (l ++ (b ∷ [])) =
     ap (λ (m : List ℕ). set m (hostBytesPlace + length l) b) (image-split s)
@@ -52,7 +52,7 @@ host-pushed s b p h =
     ∙ ap (λ (q : List ℕ). frontOf s ++ q) (padded-push 128 l b h)
     in
     ap (λ (m : List ℕ). set m hostCountPlace (length l + 1)) e
-    ∙ ap (λ (j : ℕ). set (frontOf s ++ padded 128 (l ++ (b ∷ []))) 24 j) n
+    ∙ ap (λ (j : ℕ). set (frontOf s ++ padded 128 (l ++ (b ∷ []))) hostCountPlace j) n
     ∙ host-image s (l ++ (b ∷ []))
 
 -- places overwritten past the front
@@ -99,40 +99,40 @@ module _ (l : List ℕ) (k : ℕ) (h : k ≤ length l) (b : length l ≤ 128) wh
       let e : drop k (drop (length l - k) (l ++ free)) ≡ free = drop-drop k (length l - k) (l ++ free) ∙ ap (λ (i : ℕ). drop i (l ++ free)) j ∙ drop-append-seam l free in
       ap (λ (y : List ℕ). paste y (length l - k) (replicate k 0) k) rest-moved ∙ rest-zeroed (drop (length l - k) (l ++ free)) e ∙ rest-padded
 
-pub host-popped : (s : State) (k : ℕ) → Placed s → k ≤ length (s .transfer .host) → set (paste (paste (imageOf s) 68 (drop (hostBytesPlace + k) (imageOf s)) (length (s .transfer .host) - k)) (hostBytesPlace + (length (s .transfer .host) - k)) (replicate k 0) k) hostCountPlace (length (s .transfer .host) - k) ≡ imageOf (withHost (drop k (s .transfer .host)) s)
+pub host-popped : (s : State) (k : ℕ) → Placed s → k ≤ length (s .transfer .host) → set (paste (paste (imageOf s) hostBytesPlace (drop (hostBytesPlace + k) (imageOf s)) (length (s .transfer .host) - k)) (hostBytesPlace + (length (s .transfer .host) - k)) (replicate k 0) k) hostCountPlace (length (s .transfer .host) - k) ≡ imageOf (withHost (drop k (s .transfer .host)) s)
 host-popped s k p h =
     let l : List ℕ = s .transfer .host in
     let x : List ℕ = frontOf s in
     let q : List ℕ = padded 128 l in
     let r : ℕ = length l - k in
-    let f : length x ≡ 68 = front-length s p in
+    let f : length x ≡ hostBytesPlace = front-length s p in
     let d : drop (hostBytesPlace + k) (x ++ q) ≡ drop k q = ap (λ (j : ℕ). drop (j + k) (x ++ q)) (sym f) ∙ drop-append-add x q k in
-    let a : paste (x ++ q) 68 (drop k q) r ≡ x ++ paste q 0 (drop k q) r = paste-at x q (drop k q) 68 0 r f in
-    let b : paste (x ++ paste q 0 (drop k q) r) (hostBytesPlace + r) (replicate k 0) k ≡ x ++ paste (paste q 0 (drop k q) r) r (replicate k 0) k = paste-at x (paste q 0 (drop k q) r) (replicate k 0) 68 r k f in
-    let g : paste (paste (x ++ q) 68 (drop (hostBytesPlace + k) (x ++ q)) r) (hostBytesPlace + r) (replicate k 0) k ≡ x ++ padded 128 (drop k l) =
-    ap (λ (y : List ℕ). paste (paste (x ++ q) 68 y r) (hostBytesPlace + r) (replicate k 0) k) d
+    let a : paste (x ++ q) hostBytesPlace (drop k q) r ≡ x ++ paste q 0 (drop k q) r = paste-at x q (drop k q) hostBytesPlace 0 r f in
+    let b : paste (x ++ paste q 0 (drop k q) r) (hostBytesPlace + r) (replicate k 0) k ≡ x ++ paste (paste q 0 (drop k q) r) r (replicate k 0) k = paste-at x (paste q 0 (drop k q) r) (replicate k 0) hostBytesPlace r k f in
+    let g : paste (paste (x ++ q) hostBytesPlace (drop (hostBytesPlace + k) (x ++ q)) r) (hostBytesPlace + r) (replicate k 0) k ≡ x ++ padded 128 (drop k l) =
+    ap (λ (y : List ℕ). paste (paste (x ++ q) hostBytesPlace y r) (hostBytesPlace + r) (replicate k 0) k) d
     ∙ ap (λ (y : List ℕ). paste y (hostBytesPlace + r) (replicate k 0) k) a
     ∙ b
     ∙ ap (λ (y : List ℕ). x ++ y) (popped-places l k h (p .host))
     in
-    ap (λ (y : List ℕ). set (paste (paste y 68 (drop (hostBytesPlace + k) y) r) (hostBytesPlace + r) (replicate k 0) k) hostCountPlace r) (image-split s)
+    ap (λ (y : List ℕ). set (paste (paste y hostBytesPlace (drop (hostBytesPlace + k) y) r) (hostBytesPlace + r) (replicate k 0) k) hostCountPlace r) (image-split s)
     ∙ ap (λ (y : List ℕ). set y hostCountPlace r) g
-    ∙ ap (λ (j : ℕ). set (x ++ padded 128 (drop k l)) 24 j) (sym (length-drop k l))
+    ∙ ap (λ (j : ℕ). set (x ++ padded 128 (drop k l)) hostCountPlace j) (sym (length-drop k l))
     ∙ host-image s (drop k l)
 
 -- an array of which it is known which state it is the image of
 module _ {m : List ℕ} {s : State} (p : Placed s) (e : m ≡ imageOf s) where
   pub counted : getD m hostCountPlace 0 ≡ length (s .transfer .host)
-  counted = ap (λ (x : List ℕ). getD x 24 0) e ∙ host-count s
+  counted = ap (λ (x : List ℕ). getD x hostCountPlace 0) e ∙ host-count s
 
   pub pushed : (b : ℕ) → getD m hostCountPlace 0 < 128 → set (set m (hostBytesPlace + getD m hostCountPlace 0) b) hostCountPlace (getD m hostCountPlace 0 + 1) ≡ imageOf (withHost (s .transfer .host ++ (b ∷ [])) s)
   pushed b h =
       let n : getD m hostCountPlace 0 ≡ length (s .transfer .host) = counted in
       ap (λ (j : ℕ). set (set m (hostBytesPlace + j) b) hostCountPlace (j + 1)) n
-      ∙ ap (λ (x : List ℕ). set (set x (hostBytesPlace + length (s .transfer .host)) b) 24 (length (s .transfer .host) + 1)) e
+      ∙ ap (λ (x : List ℕ). set (set x (hostBytesPlace + length (s .transfer .host)) b) hostCountPlace (length (s .transfer .host) + 1)) e
       ∙ host-pushed s b p (omega arith)
 
-  pub popped : (k : ℕ) {a b : List ℕ} → k ≤ getD m hostCountPlace 0 → a ≡ paste m 68 (drop (hostBytesPlace + k) m) (getD m hostCountPlace 0 - k) → b ≡ paste a (hostBytesPlace + (getD m hostCountPlace 0 - k)) (replicate k 0) k → set b 24 (getD m hostCountPlace 0 - k) ≡ imageOf (withHost (drop k (s .transfer .host)) s)
+  pub popped : (k : ℕ) {a b : List ℕ} → k ≤ getD m hostCountPlace 0 → a ≡ paste m hostBytesPlace (drop (hostBytesPlace + k) m) (getD m hostCountPlace 0 - k) → b ≡ paste a (hostBytesPlace + (getD m hostCountPlace 0 - k)) (replicate k 0) k → set b hostCountPlace (getD m hostCountPlace 0 - k) ≡ imageOf (withHost (drop k (s .transfer .host)) s)
   popped k h f g =
       let n : getD m hostCountPlace 0 ≡ length (s .transfer .host) = counted in
       let i : k ≤ length (s .transfer .host) = omega arith in
@@ -147,7 +147,7 @@ module _ {m : List ℕ} {s : State} (p : Placed s) (e : m ≡ imageOf s) where
   image-length =
       let l : List ℕ = s .transfer .host in
       let n : length (padded 128 l) ≡ 128 = padded-length 128 l (p .host) in
-      let f : length (frontOf s) ≡ 68 = front-length s p in
+      let f : length (frontOf s) ≡ hostBytesPlace = front-length s p in
       ap length (e ∙ image-split s) ∙ length-append (frontOf s) (padded 128 l) ∙ omega (arith, n, f)
 
   pub count-fits : getD m hostCountPlace 0 ≤ 128

@@ -12,7 +12,7 @@ use Rattle.rules.specs.Counter.{counterSize, counted, counterByte, counterWith}
 use Rattle.rules.specs.State.{State}
 use Rattle.image.specs.Image.{imageOf, headOf}
 use Rattle.rules.specs.Changed.{withScsi, withCounter, withOffset, withAck}
-use Rattle.image.specs.Layout.{ackPlace, counterHighPlace, counterLowPlace, counterMiddlePlace, offsetPlace, scsiCountPlace}
+use Rattle.image.specs.Layout.{ackPlace, counterHighPlace, counterLowPlace, counterMiddlePlace, offsetPlace, scsiCountPlace, scsiBytesPlace}
 use Rattle.datapath.specs.Ready.{Placed, counterWritten, counterCounted}
 use Rattle.datapath.proofs.Fronts.{paste-at}
 
@@ -117,16 +117,16 @@ scsi-count : (s : State) → getD (imageOf s) scsiCountPlace 0 ≡ length (s .tr
 unfolding imageOf
 scsi-count s = refl
 
-no-count : (s : State) (q : List ℕ) → set (headOf s ++ q) 23 0 ≡ headOf (withScsi [] s) ++ q
+no-count : (s : State) (q : List ℕ) → set (headOf s ++ q) scsiCountPlace 0 ≡ headOf (withScsi [] s) ++ q
 no-count s q = refl
 
-scsi-zeroed : (s : State) → Placed s → set (paste (imageOf s) 28 (replicate (length (s .transfer .scsi)) 0) (length (s .transfer .scsi))) scsiCountPlace 0 ≡ imageOf (withScsi [] s)
+scsi-zeroed : (s : State) → Placed s → set (paste (imageOf s) scsiBytesPlace (replicate (length (s .transfer .scsi)) 0) (length (s .transfer .scsi))) scsiCountPlace 0 ≡ imageOf (withScsi [] s)
 scsi-zeroed s p =
     let l : List ℕ = s .transfer .scsi in
     let n : ℕ = length l in
     let r : List ℕ = s .stack .bytes ++ padded 128 (s .transfer .host) in
-    let a : paste (headOf s ++ (padded 8 l ++ r)) 28 (replicate n 0) n ≡ headOf s ++ paste (padded 8 l ++ r) 0 (replicate n 0) n = paste-at (headOf s) (padded 8 l ++ r) (replicate n 0) 28 0 n refl in
-    ap (λ (y : List ℕ). set (paste y 28 (replicate n 0) n) scsiCountPlace 0) (behind-head s)
+    let a : paste (headOf s ++ (padded 8 l ++ r)) scsiBytesPlace (replicate n 0) n ≡ headOf s ++ paste (padded 8 l ++ r) 0 (replicate n 0) n = paste-at (headOf s) (padded 8 l ++ r) (replicate n 0) scsiBytesPlace 0 n refl in
+    ap (λ (y : List ℕ). set (paste y scsiBytesPlace (replicate n 0) n) scsiCountPlace 0) (behind-head s)
     ∙ ap (λ (y : List ℕ). set y scsiCountPlace 0) (a ∙ ap (λ (y : List ℕ). headOf s ++ y) (places-zeroed l r (p .scsi)))
     ∙ no-count s (padded 8 [] ++ r)
     ∙ sym (behind-head (withScsi [] s))
@@ -166,9 +166,9 @@ module _ {m : List ℕ} (s : State) (e : m ≡ imageOf s) where
     pub scsi-fits : getD m scsiCountPlace 0 ≤ 8
     scsi-fits = omega (arith, scsi-counted, p .scsi)
 
-    pub no-scsi : {a : List ℕ} → a ≡ paste m 28 (replicate (getD m scsiCountPlace 0) 0) (getD m scsiCountPlace 0) → set a 23 0 ≡ imageOf (withScsi [] s)
+    pub no-scsi : {a : List ℕ} → a ≡ paste m scsiBytesPlace (replicate (getD m scsiCountPlace 0) 0) (getD m scsiCountPlace 0) → set a scsiCountPlace 0 ≡ imageOf (withScsi [] s)
     no-scsi f =
         ap (λ (y : List ℕ). set y scsiCountPlace 0) f
-        ∙ ap (λ (j : ℕ). set (paste m 28 (replicate j 0) j) scsiCountPlace 0) scsi-counted
-        ∙ ap (λ (y : List ℕ). set (paste y 28 (replicate (length (s .transfer .scsi)) 0) (length (s .transfer .scsi))) scsiCountPlace 0) e
+        ∙ ap (λ (j : ℕ). set (paste m scsiBytesPlace (replicate j 0) j) scsiCountPlace 0) scsi-counted
+        ∙ ap (λ (y : List ℕ). set (paste y scsiBytesPlace (replicate (length (s .transfer .scsi)) 0) (length (s .transfer .scsi))) scsiCountPlace 0) e
         ∙ scsi-zeroed s p

@@ -1,4 +1,4 @@
-// The counter of an image: three bytes from 25 on, the lowest first; and the automatic ACK, at 18.
+// The counter of an image, in three bytes, and the automatic ACK.
 ghost use mathlib.Core.Path.{_≡_};
 ghost use mathlib.Core.Bool.{true};
 ghost use Prim.Native.Nat.{_+_, _*_};

@@ -1,4 +1,4 @@
-// The host FIFO of an image: its count at 24, its bytes from 68 on, oldest first, 0 past the count.
+// The host FIFO of an image: its count, and its bytes, oldest first, 0 past the count.
 ghost use mathlib.Core.Path.{_≡_};
 ghost use mathlib.Core.List.{[], _∷_, _++_};
 ghost use Prim.Native.Nat.{_+_, _%_, _/_, _<_, _≤_};

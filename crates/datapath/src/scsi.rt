@@ -1,4 +1,4 @@
-// The SCSI FIFO of an image: its count at 23, its bytes from 28 on; and the offset, at 17.
+// The SCSI FIFO of an image, its count and its bytes, and the offset.
 ghost use mathlib.Core.Path.{_≡_};
 ghost use mathlib.Core.List.{[]};
 ghost use Rattle.image.specs.Image.{imageOf, stateAt, IsImage};

@@ -29,11 +29,11 @@ use Rattle.image.specs.Layout.{ackPlace, counterHighPlace, counterLowPlace, cou
 use Rattle.settling.proofs.Carries.{scsi-held}
 
 -- another SCSI FIFO and byte last sent in their places
-last-set : (s : State) (q : List ℕ) (b : ℕ) → set (set (laid (headOf s) q (s .stack .bytes) (s .transfer .host)) 19 b) 23 (length q) ≡ imageOf (withTransfer (record { host = s .transfer .host; scsi = q; counter = s .transfer .counter; offset = s .transfer .offset; ack = s .transfer .ack; last = b }) s)
+last-set : (s : State) (q : List ℕ) (b : ℕ) → set (set (laid (headOf s) q (s .stack .bytes) (s .transfer .host)) lastPlace b) scsiCountPlace (length q) ≡ imageOf (withTransfer (record { host = s .transfer .host; scsi = q; counter = s .transfer .counter; offset = s .transfer .offset; ack = s .transfer .ack; last = b }) s)
 unfolding laid imageOf
 last-set s q b = sym (flat (headOf (withTransfer (record { host = s .transfer .host; scsi = q; counter = s .transfer .counter; offset = s .transfer .offset; ack = s .transfer .ack; last = b }) s)) (padded 8 q) (s .stack .bytes) (padded 128 (s .transfer .host)))
 
-scsi-set : (s : State) (q : List ℕ) → set (laid (headOf s) q (s .stack .bytes) (s .transfer .host)) 23 (length q) ≡ imageOf (withTransfer (record { host = s .transfer .host; scsi = q; counter = s .transfer .counter; offset = s .transfer .offset; ack = s .transfer .ack; last = s .transfer .last }) s)
+scsi-set : (s : State) (q : List ℕ) → set (laid (headOf s) q (s .stack .bytes) (s .transfer .host)) scsiCountPlace (length q) ≡ imageOf (withTransfer (record { host = s .transfer .host; scsi = q; counter = s .transfer .counter; offset = s .transfer .offset; ack = s .transfer .ack; last = s .transfer .last }) s)
 unfolding laid imageOf
 scsi-set s q = sym (flat (headOf (withTransfer (record { host = s .transfer .host; scsi = q; counter = s .transfer .counter; offset = s .transfer .offset; ack = s .transfer .ack; last = s .transfer .last }) s)) (padded 8 q) (s .stack .bytes) (padded 128 (s .transfer .host)))
 
@@ -42,7 +42,7 @@ abbrev lower : ℕ → List ℕ → List ℕ
 lower i m = set m i (getD m (i + 1) 0)
 
 abbrev shifted : List ℕ → List ℕ
-shifted m = set (lower 34 (lower 33 (lower 32 (lower 31 (lower 30 (lower 29 (lower 28 m))))))) 35 0
+shifted m = set (lower (scsiBytesPlace + 6) (lower (scsiBytesPlace + 5) (lower (scsiBytesPlace + 4) (lower (scsiBytesPlace + 3) (lower (scsiBytesPlace + 2) (lower (scsiBytesPlace + 1) (lower scsiBytesPlace m))))))) (scsiBytesPlace + 7) 0
 
 shifted-eight : (s : State) (q r : List ℕ) → shifted (headOf s ++ (elements q 0 8 ++ r)) ≡ headOf s ++ (padded 8 (take 7 (drop 1 (elements q 0 8))) ++ r)
 unfolding padded
@@ -73,9 +73,9 @@ module _ (s : State) (m : List ℕ) (b n : ℕ) (p : m ≡ imageOf s) (r : InRan
       let v : padded 8 (take 7 (drop 1 (elements (padded 8 q) 0 8))) ≡ padded 8 (drop 1 q) = ap (λ (l : List ℕ). padded 8 (take 7 (drop 1 l))) (sym y) ∙ padded-shift 8 1 q h (z .scsi) in
       let g : shifted m ≡ laid (headOf s) (drop 1 q) (s .stack .bytes) (s .transfer .host) = ap shifted (w ∙ ap (λ (l : List ℕ). headOf s ++ (l ++ t)) y) ∙ shifted-eight s (padded 8 q) t ∙ ap (λ (l : List ℕ). headOf s ++ (l ++ t)) v in
       let x : n - 1 ≡ length (drop 1 q) = simp length-drop (omega arith) in
-      ap (λ (l : List ℕ). set (set l 19 b) 23 (n - 1)) g
-      ∙ ap (λ (y : ℕ). set (set (laid (headOf s) (drop 1 q) (s .stack .bytes) (s .transfer .host)) 19 y) scsiCountPlace (n - 1)) (e ∙ oldest h)
-      ∙ ap (λ (y : ℕ). set (set (laid (headOf s) (drop 1 q) (s .stack .bytes) (s .transfer .host)) 19 (getD q 0 0)) 23 y) x
+      ap (λ (l : List ℕ). set (set l lastPlace b) scsiCountPlace (n - 1)) g
+      ∙ ap (λ (y : ℕ). set (set (laid (headOf s) (drop 1 q) (s .stack .bytes) (s .transfer .host)) lastPlace y) scsiCountPlace (n - 1)) (e ∙ oldest h)
+      ∙ ap (λ (y : ℕ). set (set (laid (headOf s) (drop 1 q) (s .stack .bytes) (s .transfer .host)) lastPlace (getD q 0 0)) scsiCountPlace y) x
       ∙ last-set s (drop 1 q) (getD q 0 0)
 
   stored-made : length (s .transfer .scsi) < 8 → set (set m (scsiBytesPlace + n) b) scsiCountPlace (n + 1) ≡ imageOf (withTransfer (passed false (b ∷ []) (s .transfer)) s)
@@ -84,7 +84,7 @@ module _ (s : State) (m : List ℕ) (b n : ℕ) (p : m ≡ imageOf s) (r : InRan
       let l : length m ≡ imageSize = ap length p ∙ image-long s (r .transfer) (r .stack) in
       let g : set m (scsiBytesPlace + n) b ≡ laid (headOf s) (s .transfer .scsi ++ (b ∷ [])) (s .stack .bytes) (s .transfer .host) = set-paste m (scsiBytesPlace + n) b (omega arith) ∙ ap (λ (y : List ℕ). paste y (scsiBytesPlace + n) (b ∷ []) 1) w ∙ scsi-joined z (b ∷ []) (scsiBytesPlace + n) 1 (omega arith) (omega arith) (omega arith) in
       let x : n + 1 ≡ length (s .transfer .scsi ++ (b ∷ [])) = simp length-append (omega arith) in
-      ap (λ (y : List ℕ). set y scsiCountPlace (n + 1)) g ∙ ap (λ (y : ℕ). set (laid (headOf s) (s .transfer .scsi ++ (b ∷ [])) (s .stack .bytes) (s .transfer .host)) 23 y) x
+      ap (λ (y : List ℕ). set y scsiCountPlace (n + 1)) g ∙ ap (λ (y : ℕ). set (laid (headOf s) (s .transfer .scsi ++ (b ∷ [])) (s .stack .bytes) (s .transfer .host)) scsiCountPlace y) x
       ∙ scsi-set s (s .transfer .scsi ++ (b ∷ []))
 
 -- the counter and the offset, or the automatic ACK, in their places
@@ -129,9 +129,9 @@ low-made : (s : State) (m : List ℕ) → m ≡ imageOf s → s .transfer .count
 unfolding counterPut
 low-made s m p f h =
     let n : ℕ = s .transfer .counter in
-    let g : getD m counterLowPlace 0 ≡ counterByte 0 n = ap (λ (l : List ℕ). getD l 25 0) p ∙ low-at s in
+    let g : getD m counterLowPlace 0 ≡ counterByte 0 n = ap (λ (l : List ℕ). getD l counterLowPlace 0) p ∙ low-at s in
     let k : counterByte 0 n < 255 = omega arith in
-    ap (λ (x : ℕ). set m counterLowPlace (x + 1)) g ∙ ap (λ (l : List ℕ). set l 25 (counterByte 0 n + 1)) p ∙ low-alone s (counterByte 0 n + 1)
+    ap (λ (x : ℕ). set m counterLowPlace (x + 1)) g ∙ ap (λ (l : List ℕ). set l counterLowPlace (counterByte 0 n + 1)) p ∙ low-alone s (counterByte 0 n + 1)
     ∙ ap (λ (x : ℕ). set (set (set (imageOf s) counterLowPlace x) counterMiddlePlace (counterByte 1 n)) counterHighPlace (counterByte 2 n)) (low-counts n f k)
     ∙ ap (λ (x : ℕ). set (set (set (imageOf s) counterLowPlace (counterByte 0 (counted n))) counterMiddlePlace x) counterHighPlace (counterByte 2 n)) (middle-stays n f k)
     ∙ ap (λ (x : ℕ). set (set (set (imageOf s) counterLowPlace (counterByte 0 (counted n))) counterMiddlePlace (counterByte 1 (counted n))) counterHighPlace x) (high-stays n f k)
@@ -144,13 +144,13 @@ module _ (s : State) (m m₁ : List ℕ) (o : ℕ) (p : m ≡ imageOf s) (e : m�
   pulse-made : o ≡ getD m₁ offsetPlace 0 - 1 → set m₁ offsetPlace o ≡ imageOf (withTransfer (acknowledged true (s .transfer)) s)
   unfolding acknowledged counterPut
   pulse-made f =
-      let g : o ≡ s .transfer .offset - 1 = f ∙ ap (λ (l : List ℕ). getD l 17 0 - 1) put ∙ ap (λ (k : ℕ). k - 1) (offset-kept s (counterByte 0 (counted (s .transfer .counter))) (counterByte 1 (counted (s .transfer .counter))) (counterByte 2 (counted (s .transfer .counter)))) in
-      ap (λ (l : List ℕ). set l 17 o) put ∙ ap (set (counterPut (imageOf s) (counted (s .transfer .counter))) 17) g
+      let g : o ≡ s .transfer .offset - 1 = f ∙ ap (λ (l : List ℕ). getD l offsetPlace 0 - 1) put ∙ ap (λ (k : ℕ). k - 1) (offset-kept s (counterByte 0 (counted (s .transfer .counter))) (counterByte 1 (counted (s .transfer .counter))) (counterByte 2 (counted (s .transfer .counter)))) in
+      ap (λ (l : List ℕ). set l offsetPlace o) put ∙ ap (set (counterPut (imageOf s) (counted (s .transfer .counter))) offsetPlace) g
       ∙ acked-pulse s (counted (s .transfer .counter)) (s .transfer .offset - 1)
 
   on-made : set m₁ ackPlace 1 ≡ imageOf (withTransfer (acknowledged false (s .transfer)) s)
   unfolding acknowledged counterPut
-  on-made = ap (λ (l : List ℕ). set l 18 1) put ∙ acked-on s (counted (s .transfer .counter))
+  on-made = ap (λ (l : List ℕ). set l ackPlace 1) put ∙ acked-on s (counted (s .transfer .counter))
 
 -- the same of an image
 module _ (m : List ℕ) (i : IsImage m) where
@@ -164,7 +164,7 @@ module _ (m : List ℕ) (i : IsImage m) where
   byte-stored b n u = stored-made (stateAt m) m b n (i .packed) (i .range) (u ∙ scsi-held m i)
 
   count-is : (n : ℕ) → n ≡ getD m counterLowPlace 0 + 256 * getD m counterMiddlePlace 0 + 65536 * getD m counterHighPlace 0 → n ≡ (stateAt m) .transfer .counter
-  count-is n e = e ∙ ap (λ (l : List ℕ). getD l 25 0 + 256 * getD l 26 0 + 65536 * getD l 27 0) (i .packed) ∙ counter-at (stateAt m) (i .range .transfer .counter)
+  count-is n e = e ∙ ap (λ (l : List ℕ). getD l counterLowPlace 0 + 256 * getD l counterMiddlePlace 0 + 65536 * getD l counterHighPlace 0) (i .packed) ∙ counter-at (stateAt m) (i .range .transfer .counter)
 
   pub count-low : getD m counterLowPlace 0 < 255 → set m counterLowPlace (getD m counterLowPlace 0 + 1) ≡ counterPut m (counted ((stateAt m) .transfer .counter))
   count-low = low-made (stateAt m) m (i .packed) (i .range .transfer .counter)

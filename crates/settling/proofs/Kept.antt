@@ -79,15 +79,15 @@ module _ (s : State) (f : TransferFits (s .transfer)) (k : StackFits (s .stack))
   transfer-read =
       same-transfer host-read scsi-read (counter-at s (f .counter)) (offset-at s) (ap (λ (n : ℕ). eqb n 1) (ack-at s) ∙ is-one (s .transfer .ack)) (last-at s)
 
-  stack-part : (a p k r : List ℕ) → length (a ++ p) ≡ 36 → length k ≡ 32 → take 32 (drop stackBytesPlace (a ++ (p ++ (k ++ r)))) ≡ k
+  stack-part : (a p k r : List ℕ) → length (a ++ p) ≡ stackBytesPlace → length k ≡ 32 → take 32 (drop stackBytesPlace (a ++ (p ++ (k ++ r)))) ≡ k
   stack-part a p k r e g =
-      ap (λ (l : List ℕ). take 32 (drop stackBytesPlace l)) (sym (append-assoc a p (k ++ r))) ∙ ap (take 32) (drop-at (a ++ p) (k ++ r) 36 e) ∙ take-at k r 32 g
+      ap (λ (l : List ℕ). take 32 (drop stackBytesPlace l)) (sym (append-assoc a p (k ++ r))) ∙ ap (take 32) (drop-at (a ++ p) (k ++ r) stackBytesPlace e) ∙ take-at k r 32 g
 
   stack-read : take 32 (drop stackBytesPlace (imageOf s)) ≡ s .stack .bytes
   unfolding laid
   stack-read =
       let e : length (padded 8 (s .transfer .scsi)) ≡ 8 = padded-length 8 (s .transfer .scsi) (f .scsi) in
-      let g : length (headOf s ++ padded 8 (s .transfer .scsi)) ≡ 36 = length-append (headOf s) (padded 8 (s .transfer .scsi)) ∙ ap (λ (n : ℕ). scsiBytesPlace + n) e in
+      let g : length (headOf s ++ padded 8 (s .transfer .scsi)) ≡ stackBytesPlace = length-append (headOf s) (padded 8 (s .transfer .scsi)) ∙ ap (λ (n : ℕ). scsiBytesPlace + n) e in
       ap (λ (l : List ℕ). take 32 (drop stackBytesPlace l)) (image-laid s)
       ∙ stack-part (headOf s) (padded 8 (s .transfer .scsi)) (s .stack .bytes) (padded 128 (s .transfer .host) ++ []) g (k .size)
 
@@ -139,11 +139,11 @@ module _ (m : List ℕ) (s : State) (p : m ≡ imageOf s) (e : s ≡ stateAt m) 
 
   at-status : statusOf (getD (imageOf s) statusPlace 0) ≡ s .status
   unfolding stateAt
-  at-status = ap (λ (l : List ℕ). statusOf (getD l 12 0)) (sym p) ∙ ap (λ (x : State). x .status) (sym e)
+  at-status = ap (λ (l : List ℕ). statusOf (getD l statusPlace 0)) (sym p) ∙ ap (λ (x : State). x .status) (sym e)
 
   at-latches : latchesOf (getD (imageOf s) latchesPlace 0) ≡ s .latches
   unfolding stateAt
-  at-latches = ap (λ (l : List ℕ). latchesOf (getD l 13 0)) (sym p) ∙ ap (λ (x : State). x .latches) (sym e)
+  at-latches = ap (λ (l : List ℕ). latchesOf (getD l latchesPlace 0)) (sym p) ∙ ap (λ (x : State). x .latches) (sym e)
 
   pub read-back : (t : Transfer) → TransferFits t → StackFits (s .stack) → stateAt (imageOf (withTransfer t s)) ≡ withTransfer t s
   unfolding stateAt
@@ -168,7 +168,4 @@ pub long : (m : List ℕ) → IsImage m → length m ≡ imageSize
 long m i = ap length (i .packed) ∙ image-long (stateAt m) (i .range .transfer) (i .range .stack)
 
 pub offset-held : (m : List ℕ) → IsImage m → getD m offsetPlace 0 ≡ (stateAt m) .transfer .offset
-offset-held m i = ap (λ (l : List ℕ). getD l 17 0) (i .packed) ∙ offset-at (stateAt m)
-
-pub ack-held : (m : List ℕ) → IsImage m → eqb (getD m ackPlace 0) 1 ≡ (stateAt m) .transfer .ack
-ack-held m i = ap (λ (l : List ℕ). eqb (getD l 18 0) 1) (i .packed) ∙ ap (λ (n : ℕ). eqb n 1) (ack-at (stateAt m)) ∙ is-one ((stateAt m) .transfer .ack)
+offset-held m i = ap (λ (l : List ℕ). getD l offsetPlace 0) (i .packed) ∙ offset-at (stateAt m)

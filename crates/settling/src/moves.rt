@@ -25,7 +25,7 @@ fn carried_out(m: &mut Image, k: usize)
     let held = crate::copies::wide(m[SCSI_COUNT]);
     let n = crate::copies::wide(m[HOST_COUNT]);
     copied(m, HOST_BYTES, SCSI_BYTES + held, k);
-    crate::copies::moved_down(m, 68, n, k);
+    crate::copies::moved_down(m, HOST_BYTES, n, k);
     m[SCSI_COUNT] = (held + k) as u8;
     m[HOST_COUNT] = (n - k) as u8;
 }
@@ -40,7 +40,7 @@ fn carried_in(m: &mut Image, k: usize)
     let n = crate::copies::wide(m[SCSI_COUNT]);
     let held = crate::copies::wide(m[HOST_COUNT]);
     copied(m, SCSI_BYTES, HOST_BYTES + held, k);
-    crate::copies::moved_down(m, 28, n, k);
+    crate::copies::moved_down(m, SCSI_BYTES, n, k);
     m[SCSI_COUNT] = (n - k) as u8;
     m[HOST_COUNT] = (held + k) as u8;
 }

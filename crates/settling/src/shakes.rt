@@ -14,6 +14,7 @@ ghost use Rattle.settling.specs.Parts.{passed, acknowledged};
 ghost use Rattle.settling.specs.Steps.{sentWith, byteOf, shakenOf};
 ghost use Rattle.image.specs.Layout.{counterHighPlace, counterLowPlace, counterMiddlePlace};
 use fifos::sent::Sent;
+use image::bits::automatic_ack;
 use image::layout::ACK;
 use image::layout::COUNTER_HIGH;
 use image::layout::COUNTER_LOW;
@@ -43,7 +44,7 @@ fn can_asynchronous(m: &Image, c: Conditions) -> bool
     ensures { λ r. ⌜ r ≡ canAsynchronous c ((stateAt (now (m .entry))) .transfer) ⌝ }
 {
     let held = m[SCSI_COUNT];
-    let on = m[ACK] == 1;
+    let on = automatic_ack(m);
     if c.outbound {
         c.req & !on & (0 < held)
     } else {
@@ -70,14 +71,14 @@ fn byte_sent(m: &mut Image) -> u8
 {
     let n = m[SCSI_COUNT];
     let b = m[SCSI_BYTES];
-    m[SCSI_BYTES] = m[29];
-    m[29] = m[30];
-    m[30] = m[31];
-    m[31] = m[32];
-    m[32] = m[33];
-    m[33] = m[34];
-    m[34] = m[35];
-    m[35] = 0;
+    m[SCSI_BYTES] = m[SCSI_BYTES + 1];
+    m[SCSI_BYTES + 1] = m[SCSI_BYTES + 2];
+    m[SCSI_BYTES + 2] = m[SCSI_BYTES + 3];
+    m[SCSI_BYTES + 3] = m[SCSI_BYTES + 4];
+    m[SCSI_BYTES + 4] = m[SCSI_BYTES + 5];
+    m[SCSI_BYTES + 5] = m[SCSI_BYTES + 6];
+    m[SCSI_BYTES + 6] = m[SCSI_BYTES + 7];
+    m[SCSI_BYTES + 7] = 0;
     m[LAST] = b;
     m[SCSI_COUNT] = n - 1;
     b

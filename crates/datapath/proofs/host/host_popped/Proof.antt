@@ -3,7 +3,7 @@ use native.Mathlib.Omega.{arith}
 use lib.ListN.{getD}
 use borrow.Author.Needs.{needs}
 use Rattle.datapath.proofs.Fronts.{popped, moved-length, image-length, count-fits, placed-at}
-use Rattle.image.specs.Layout.{hostCountPlace}
+use Rattle.image.specs.Layout.{hostCountPlace, hostBytesPlace}
 use Rattle.datapath.proofs.host.host_popped.Statement.{statement}
 use Rattle.datapath.proofs.host.host_popped.Tie as tie
 
@@ -13,7 +13,7 @@ zeroed-requires c κs =
     let m = a .args .m .now in
     let p = placed-at m (a .pre .0) in
     let h = count-fits p (a .pre .0 .packed) in
-    (moved-length m 68 (a .args .k) (getD m hostCountPlace 0 - a .args .k) (c .before .copied .ensures) (image-length p (a .pre .0 .packed)) (omega (arith, a .pre .1, h)), omega (arith, a .pre .1, h))
+    (moved-length m hostBytesPlace (a .args .k) (getD m hostCountPlace 0 - a .args .k) (c .before .copied .ensures) (image-length p (a .pre .0 .packed)) (omega (arith, a .pre .1, h)), omega (arith, a .pre .1, h))
 
 cast-n : tie.Need-cast-n
 cast-n c =

@@ -23,10 +23,10 @@ module _ {m : List ℕ} {s : State} (p : Placed s) (e : m ≡ imageOf s) (b : �
       let n : getD m hostCountPlace 0 ≡ length (s .transfer .host) = counted p e in
       with-host s (s .transfer .host ++ (b ∷ [])) p (simp length-append (omega arith))
 
-  room-left : getD a 24 0 < 128
+  room-left : getD a hostCountPlace 0 < 128
   room-left =
       let n : getD m hostCountPlace 0 ≡ length (s .transfer .host) = counted p e in
-      let k : getD a 24 0 ≡ length (s .transfer .host) + 1 = counted low-placed low-first ∙ length-append (s .transfer .host) (b ∷ []) in
+      let k : getD a hostCountPlace 0 ≡ length (s .transfer .host) + 1 = counted low-placed low-first ∙ length-append (s .transfer .host) (b ∷ []) in
       omega arith
 
 push-requires : tie.Need-push-requires
