@@ -83,11 +83,35 @@ module _ (s : State) (v : ℕ) (h : v < 256) where
       let n : ℕ = s .transfer .counter in
       bytes-as s (counterWith 2 v n) (sym (high-0 v n h)) (sym (high-1 v n h)) (sym (high-2 v n h))
 
+-- a low byte below 255 does not carry
+module _ (n : ℕ) (h : n < counterSize) (k : counterByte 0 n < 255) where
+  low-counts : counterByte 0 n + 1 ≡ counterByte 0 (counted n)
+  unfolding counted
+  low-counts = omega arith
+
+  middle-stays : counterByte 1 n ≡ counterByte 1 (counted n)
+  unfolding counted
+  middle-stays = omega arith
+
+  high-stays : counterByte 2 n ≡ counterByte 2 (counted n)
+  unfolding counted
+  high-stays = omega arith
+
+low-read : (s : State) → getD (imageOf s) counterLowPlace 0 ≡ counterByte 0 (s .transfer .counter)
+unfolding imageOf
+low-read s = refl
+
+low-counted : (s : State) → s .transfer .counter < counterSize → counterByte 0 (s .transfer .counter) < 255 → set (imageOf s) counterLowPlace (counterByte 0 (s .transfer .counter) + 1) ≡ imageOf (counterCounted s)
+unfolding imageOf
+low-counted s h k =
+    let n : ℕ = s .transfer .counter in
+    bytes-as s (counted n) (low-counts n h k) (middle-stays n h k) (high-stays n h k)
+
 ack-stored : (s : State) → set (imageOf s) ackPlace 1 ≡ imageOf (withAck true s)
 unfolding imageOf
 ack-stored s = refl
 
-offset-stored : (s : State) (n : ℕ) → set (imageOf s) offsetPlace n ≡ imageOf (withOffset n s)
+pub offset-stored : (s : State) (n : ℕ) → set (imageOf s) offsetPlace n ≡ imageOf (withOffset n s)
 unfolding imageOf
 offset-stored s n = refl
 
@@ -159,6 +183,12 @@ module _ {m : List ℕ} (s : State) (e : m ≡ imageOf s) where
     more {k} {n} {a} {b} {c} f g i j l =
         let q : n ≡ counted (s .transfer .counter) = g ∙ ap counted (f ∙ number) in
         ap (λ (y : List ℕ). set (set (set y counterLowPlace a) counterMiddlePlace b) counterHighPlace c) e ∙ bytes-as s n i j l ∙ ap (λ (x : ℕ). imageOf (withCounter x s)) q
+
+    pub low-more : getD m counterLowPlace 0 < 255 → set m counterLowPlace (getD m counterLowPlace 0 + 1) ≡ imageOf (counterCounted s)
+    low-more h =
+        let g : getD m counterLowPlace 0 ≡ counterByte 0 (s .transfer .counter) = ap (λ (y : List ℕ). getD y counterLowPlace 0) e ∙ low-read s in
+        ap (λ (x : ℕ). set m counterLowPlace (x + 1)) g ∙ ap (λ (y : List ℕ). set y counterLowPlace (counterByte 0 (s .transfer .counter) + 1)) e
+        ∙ low-counted s (p .counter) (omega arith)
 
     pub scsi-counted : getD m scsiCountPlace 0 ≡ length (s .transfer .scsi)
     scsi-counted = ap (λ (y : List ℕ). getD y scsiCountPlace 0) e ∙ scsi-count s

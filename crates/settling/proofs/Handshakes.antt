@@ -1,5 +1,5 @@
 -- The byte and the ACK of a handshake, in an image.
-use Prim.Native.Nat.{ℕ, suc, _+_, _*_, _-_, _%_, _<_, _≤_}
+use Prim.Native.Nat.{ℕ, suc, _+_, _-_, _<_}
 use mathlib.Core.Path.{_≡_, refl, sym, ap, _∙_}
 use mathlib.Core.Bool.{Bool, true, false, cond}
 use mathlib.Core.List.{List, [], _∷_, _++_}
@@ -8,7 +8,6 @@ use native.Mathlib.Numerals.{add-one}
 use lib.ListN.{length, take, drop, set, getD, length-append, length-drop}
 use lib.Seq.{paste, set-split, append-snoc, getD-take, getD-drop}
 use Rattle.rules.specs.Numbers.{padded}
-use Rattle.rules.specs.Counter.{counterByte, counted, counterSize}
 use Rattle.rules.specs.State.{State, Transfer}
 use Rattle.rules.specs.StepC.{canHandshake, storedBy, handshake}
 use Rattle.rules.specs.Ranges.{InRange, Bytes, TransferFits, TransferBytes}
@@ -19,14 +18,16 @@ use Rattle.rules.proofs.Rest.{handshake-full}
 use Rattle.laws.proofs.Lists.{elements, elements-all, padded-length, padded-shift}
 use Rattle.settling.specs.Parts.{startOf, passed, acknowledged}
 use Rattle.settling.proofs.ShakeParts.{passed-none}
-use Rattle.rules.specs.Changed.{withTransfer}
+use Rattle.rules.specs.Changed.{withAck, withTransfer}
 use Rattle.image.specs.Image.{headOf, imageOf, stateAt, IsImage}
-use Rattle.settling.specs.Laid.{laid, counterPut}
+use Rattle.settling.specs.Laid.{laid}
 use Rattle.settling.specs.Steps.{byteOf}
 use Rattle.settling.proofs.Places.{Sized, flat, image-laid, scsi-joined, scsi-from}
-use Rattle.settling.proofs.Kept.{sized, image-long, offset-at, counter-at}
-use Rattle.image.specs.Layout.{ackPlace, counterHighPlace, counterLowPlace, counterMiddlePlace, imageSize, lastPlace, offsetPlace, scsiBytesPlace, scsiCountPlace}
+use Rattle.settling.proofs.Kept.{sized, image-long, offset-at}
+use Rattle.image.specs.Layout.{imageSize, lastPlace, offsetPlace, scsiBytesPlace, scsiCountPlace}
 use Rattle.settling.proofs.Carries.{scsi-held}
+use Rattle.datapath.specs.Ready.{counterCounted}
+use Rattle.datapath.proofs.Heads.{offset-stored}
 
 -- another SCSI FIFO and byte last sent in their places
 last-set : (s : State) (q : List ℕ) (b : ℕ) → set (set (laid (headOf s) q (s .stack .bytes) (s .transfer .host)) lastPlace b) scsiCountPlace (length q) ≡ imageOf (withTransfer (record { host = s .transfer .host; scsi = q; counter = s .transfer .counter; offset = s .transfer .offset; ack = s .transfer .ack; last = b }) s)
@@ -87,70 +88,18 @@ module _ (s : State) (m : List ℕ) (b n : ℕ) (p : m ≡ imageOf s) (r : InRan
       ap (λ (y : List ℕ). set y scsiCountPlace (n + 1)) g ∙ ap (λ (y : ℕ). set (laid (headOf s) (s .transfer .scsi ++ (b ∷ [])) (s .stack .bytes) (s .transfer .host)) scsiCountPlace y) x
       ∙ scsi-set s (s .transfer .scsi ++ (b ∷ []))
 
--- the counter and the offset, or the automatic ACK, in their places
-acked-pulse : (s : State) (n o : ℕ) → set (set (set (set (imageOf s) counterLowPlace (counterByte 0 n)) counterMiddlePlace (counterByte 1 n)) counterHighPlace (counterByte 2 n)) offsetPlace o ≡ imageOf (withTransfer (record { host = s .transfer .host; scsi = s .transfer .scsi; counter = n; offset = o; ack = s .transfer .ack; last = s .transfer .last }) s)
-unfolding imageOf
-acked-pulse s n o = refl
+-- the ACK counted in m₁
+module _ (s : State) (m₁ : List ℕ) where
+  pub ack-pulse : (o : ℕ) → m₁ ≡ imageOf (counterCounted s) → o ≡ getD m₁ offsetPlace 0 - 1 → set m₁ offsetPlace o ≡ imageOf (withTransfer (acknowledged true (s .transfer)) s)
+  unfolding acknowledged
+  ack-pulse o e f =
+      let x : State = counterCounted s in
+      let g : o ≡ s .transfer .offset - 1 = f ∙ ap (λ (l : List ℕ). getD l offsetPlace 0 - 1) e ∙ ap (λ (k : ℕ). k - 1) (offset-at x) in
+      ap (λ (l : List ℕ). set l offsetPlace o) e ∙ ap (set (imageOf x) offsetPlace) g ∙ offset-stored x (s .transfer .offset - 1)
 
-acked-on : (s : State) (n : ℕ) → set (set (set (set (imageOf s) counterLowPlace (counterByte 0 n)) counterMiddlePlace (counterByte 1 n)) counterHighPlace (counterByte 2 n)) ackPlace 1 ≡ imageOf (withTransfer (record { host = s .transfer .host; scsi = s .transfer .scsi; counter = n; offset = s .transfer .offset; ack = true; last = s .transfer .last }) s)
-unfolding imageOf
-acked-on s n = refl
-
-offset-kept : (s : State) (x y z : ℕ) → getD (set (set (set (imageOf s) counterLowPlace x) counterMiddlePlace y) counterHighPlace z) offsetPlace 0 ≡ s .transfer .offset
-unfolding imageOf
-offset-kept s x y z = refl
-
-low-alone : (s : State) (x : ℕ) → set (imageOf s) counterLowPlace x ≡ set (set (set (imageOf s) counterLowPlace x) counterMiddlePlace (counterByte 1 (s .transfer .counter))) counterHighPlace (counterByte 2 (s .transfer .counter))
-unfolding imageOf
-low-alone s x = refl
-
-low-at : (s : State) → getD (imageOf s) counterLowPlace 0 ≡ counterByte 0 (s .transfer .counter)
-unfolding imageOf
-low-at s = refl
-
--- a low byte below 255 does not carry
-low-counts : (n : ℕ) → n < counterSize → counterByte 0 n < 255 → counterByte 0 n + 1 ≡ counterByte 0 (counted n)
-unfolding counted
-low-counts n h k = omega arith
-
-middle-stays : (n : ℕ) → n < counterSize → counterByte 0 n < 255 → counterByte 1 n ≡ counterByte 1 (counted n)
-unfolding counted
-middle-stays n h k = omega arith
-
-high-stays : (n : ℕ) → n < counterSize → counterByte 0 n < 255 → counterByte 2 n ≡ counterByte 2 (counted n)
-unfolding counted
-high-stays n h k = omega arith
-
-whole-counts : (n k : ℕ) → n ≡ k → (n % 16777216 + 1) % 16777216 ≡ counted k
-unfolding counted
-whole-counts n k e = omega arith
-
-low-made : (s : State) (m : List ℕ) → m ≡ imageOf s → s .transfer .counter < counterSize → getD m counterLowPlace 0 < 255 → set m counterLowPlace (getD m counterLowPlace 0 + 1) ≡ counterPut m (counted (s .transfer .counter))
-unfolding counterPut
-low-made s m p f h =
-    let n : ℕ = s .transfer .counter in
-    let g : getD m counterLowPlace 0 ≡ counterByte 0 n = ap (λ (l : List ℕ). getD l counterLowPlace 0) p ∙ low-at s in
-    let k : counterByte 0 n < 255 = omega arith in
-    ap (λ (x : ℕ). set m counterLowPlace (x + 1)) g ∙ ap (λ (l : List ℕ). set l counterLowPlace (counterByte 0 n + 1)) p ∙ low-alone s (counterByte 0 n + 1)
-    ∙ ap (λ (x : ℕ). set (set (set (imageOf s) counterLowPlace x) counterMiddlePlace (counterByte 1 n)) counterHighPlace (counterByte 2 n)) (low-counts n f k)
-    ∙ ap (λ (x : ℕ). set (set (set (imageOf s) counterLowPlace (counterByte 0 (counted n))) counterMiddlePlace x) counterHighPlace (counterByte 2 n)) (middle-stays n f k)
-    ∙ ap (λ (x : ℕ). set (set (set (imageOf s) counterLowPlace (counterByte 0 (counted n))) counterMiddlePlace (counterByte 1 (counted n))) counterHighPlace x) (high-stays n f k)
-    ∙ ap (λ (l : List ℕ). counterPut l (counted n)) (sym p)
-
-module _ (s : State) (m m₁ : List ℕ) (o : ℕ) (p : m ≡ imageOf s) (e : m₁ ≡ counterPut m (counted (s .transfer .counter))) where
-  put : m₁ ≡ counterPut (imageOf s) (counted (s .transfer .counter))
-  put = e ∙ ap (λ (l : List ℕ). counterPut l (counted (s .transfer .counter))) p
-
-  pulse-made : o ≡ getD m₁ offsetPlace 0 - 1 → set m₁ offsetPlace o ≡ imageOf (withTransfer (acknowledged true (s .transfer)) s)
-  unfolding acknowledged counterPut
-  pulse-made f =
-      let g : o ≡ s .transfer .offset - 1 = f ∙ ap (λ (l : List ℕ). getD l offsetPlace 0 - 1) put ∙ ap (λ (k : ℕ). k - 1) (offset-kept s (counterByte 0 (counted (s .transfer .counter))) (counterByte 1 (counted (s .transfer .counter))) (counterByte 2 (counted (s .transfer .counter)))) in
-      ap (λ (l : List ℕ). set l offsetPlace o) put ∙ ap (set (counterPut (imageOf s) (counted (s .transfer .counter))) offsetPlace) g
-      ∙ acked-pulse s (counted (s .transfer .counter)) (s .transfer .offset - 1)
-
-  on-made : set m₁ ackPlace 1 ≡ imageOf (withTransfer (acknowledged false (s .transfer)) s)
-  unfolding acknowledged counterPut
-  on-made = ap (λ (l : List ℕ). set l ackPlace 1) put ∙ acked-on s (counted (s .transfer .counter))
+  pub ack-on : m₁ ≡ imageOf (withAck true (counterCounted s)) → m₁ ≡ imageOf (withTransfer (acknowledged false (s .transfer)) s)
+  unfolding acknowledged
+  ack-on e = e
 
 -- the same of an image
 module _ (m : List ℕ) (i : IsImage m) where
@@ -162,21 +111,6 @@ module _ (m : List ℕ) (i : IsImage m) where
 
   pub byte-stored : (b n : ℕ) → n ≡ getD m scsiCountPlace 0 → length ((stateAt m) .transfer .scsi) < 8 → set (set m (scsiBytesPlace + n) b) scsiCountPlace (n + 1) ≡ imageOf (withTransfer (passed false (b ∷ []) ((stateAt m) .transfer)) (stateAt m))
   byte-stored b n u = stored-made (stateAt m) m b n (i .packed) (i .range) (u ∙ scsi-held m i)
-
-  count-is : (n : ℕ) → n ≡ getD m counterLowPlace 0 + 256 * getD m counterMiddlePlace 0 + 65536 * getD m counterHighPlace 0 → n ≡ (stateAt m) .transfer .counter
-  count-is n e = e ∙ ap (λ (l : List ℕ). getD l counterLowPlace 0 + 256 * getD l counterMiddlePlace 0 + 65536 * getD l counterHighPlace 0) (i .packed) ∙ counter-at (stateAt m) (i .range .transfer .counter)
-
-  pub count-low : getD m counterLowPlace 0 < 255 → set m counterLowPlace (getD m counterLowPlace 0 + 1) ≡ counterPut m (counted ((stateAt m) .transfer .counter))
-  count-low = low-made (stateAt m) m (i .packed) (i .range .transfer .counter)
-
-  pub count-whole : (n : ℕ) → n ≡ getD m counterLowPlace 0 + 256 * getD m counterMiddlePlace 0 + 65536 * getD m counterHighPlace 0 → counterPut m ((n % 16777216 + 1) % 16777216) ≡ counterPut m (counted ((stateAt m) .transfer .counter))
-  count-whole n u = ap (counterPut m) (whole-counts n ((stateAt m) .transfer .counter) (count-is n u))
-
-  pub ack-pulse : (m₁ : List ℕ) (o : ℕ) → m₁ ≡ counterPut m (counted ((stateAt m) .transfer .counter)) → o ≡ getD m₁ offsetPlace 0 - 1 → set m₁ offsetPlace o ≡ imageOf (withTransfer (acknowledged true ((stateAt m) .transfer)) (stateAt m))
-  ack-pulse m₁ o e f = pulse-made (stateAt m) m m₁ o (i .packed) e f
-
-  pub ack-on : (m₁ : List ℕ) → m₁ ≡ counterPut m (counted ((stateAt m) .transfer .counter)) → set m₁ ackPlace 1 ≡ imageOf (withTransfer (acknowledged false ((stateAt m) .transfer)) (stateAt m))
-  ack-on m₁ e = on-made (stateAt m) m m₁ 0 (i .packed) e
 
 -- inbound: nothing stored, or one byte
 pub pass-none : (o y : Bool) (b : ℕ) (t : Transfer) → o ≡ false → y ≡ true → passed o (cond y [] (b ∷ [])) t ≡ t

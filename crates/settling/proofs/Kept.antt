@@ -21,6 +21,7 @@ use Rattle.laws.proofs.Lists.{padded-length}
 use Rattle.rules.specs.Changed.{withTransfer}
 use Rattle.image.specs.Image.{headOf, imageOf, stateAt, registersAt, linesAt, transferAt, statusOf, latchesOf, IsImage}
 use Rattle.image.proofs.EightBits.{is-one}
+use Rattle.datapath.proofs.Heads.{bytes-joined}
 use Rattle.settling.specs.Laid.{laid}
 use Rattle.settling.proofs.Places.{Sized, image-laid, laid-long, host-from, scsi-from}
 use Rattle.image.specs.Layout.{ackPlace, counterHighPlace, counterLowPlace, counterMiddlePlace, hostBytesPlace, hostCountPlace, identityPlace, imageSize, lastPlace, latchesPlace, offsetPlace, pointerPlace, quietPlace, scsiBytesPlace, scsiCountPlace, stackBytesPlace, statusPlace}
@@ -45,12 +46,9 @@ last-at : (s : State) → getD (imageOf s) lastPlace 0 ≡ s .transfer .last
 unfolding imageOf
 last-at s = refl
 
-counter-read : (n : ℕ) → n < counterSize → counterByte 0 n + 256 * counterByte 1 n + 65536 * counterByte 2 n ≡ n
-counter-read n h = omega arith
-
-pub counter-at : (s : State) → s .transfer .counter < counterSize → getD (imageOf s) counterLowPlace 0 + 256 * getD (imageOf s) counterMiddlePlace 0 + 65536 * getD (imageOf s) counterHighPlace 0 ≡ s .transfer .counter
+counter-at : (s : State) → s .transfer .counter < counterSize → getD (imageOf s) counterLowPlace 0 + 256 * getD (imageOf s) counterMiddlePlace 0 + 65536 * getD (imageOf s) counterHighPlace 0 ≡ s .transfer .counter
 unfolding imageOf
-counter-at s h = counter-read (s .transfer .counter) h
+counter-at s h = bytes-joined (s .transfer .counter) h
 
 pub sized : (s : State) → TransferFits (s .transfer) → StackFits (s .stack) → Sized (headOf s) (s .transfer .scsi) (s .stack .bytes) (s .transfer .host)
 sized s f k = record { head = refl; scsi = f .scsi; stack = k .size; host = f .host }
