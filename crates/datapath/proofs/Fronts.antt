@@ -64,62 +64,6 @@ paste-past x q t i n =
 pub paste-at : (x q t : List ℕ) (m i n : ℕ) → length x ≡ m → paste (x ++ q) (m + i) t n ≡ x ++ paste q i t n
 paste-at x q t m i n e = rw (← e) (paste-past x q t i n)
 
--- the places without the k oldest: the rest first, then k zeros
-module _ (l : List ℕ) (k : ℕ) (h : k ≤ length l) (b : length l ≤ 128) where
-  abbrev free : List ℕ
-  free = replicate (128 - length l) 0
-
-  rest-length : length (drop k l) ≡ length l - k
-  rest-length = length-drop k l
-
-  rest-moved : paste (l ++ free) 0 (drop k (l ++ free)) (length l - k) ≡ drop k l ++ drop (length l - k) (l ++ free)
-  rest-moved =
-      let d : drop k (l ++ free) ≡ drop k l ++ free = drop-append-le k l free h in
-      let t : take (length l - k) (drop k l ++ free) ≡ drop k l = take-at (drop k l) free (length l - k) rest-length in
-      rw (d, t, zero-add (length l - k))
-
-  rest-zeroed : (q : List ℕ) → drop k q ≡ free → paste (drop k l ++ q) (length l - k) (replicate k 0) k ≡ drop k l ++ replicate k 0 ++ free
-  rest-zeroed q e =
-      let t : take (length l - k) (drop k l ++ q) ≡ drop k l = take-at (drop k l) q (length l - k) rest-length in
-      let o : List ℕ = replicate k 0 in
-      let z : take k o ≡ o = take-all k o (simp length-replicate (omega arith)) in
-      let d : drop (length l - k + k) (drop k l ++ q) ≡ free = ap (λ (j : ℕ). drop (j + k) (drop k l ++ q)) (sym rest-length) ∙ drop-append-add (drop k l) q k ∙ e in
-      rw (t, z, d)
-
-  rest-padded : drop k l ++ replicate k 0 ++ free ≡ padded 128 (drop k l)
-  unfolding padded
-  rest-padded =
-      let n : k + (128 - length l) ≡ 128 - length (drop k l) = simp length-drop (omega arith) in
-      rw (append-assoc (drop k l) (replicate {A = ℕ} k 0) free, replicate-append-replicate {A = ℕ} k (128 - length l) 0, n)
-
-  pub popped-places : paste (paste (padded 128 l) 0 (drop k (padded 128 l)) (length l - k)) (length l - k) (replicate k 0) k ≡ padded 128 (drop k l)
-  unfolding padded
-  popped-places =
-      let j : length l - k + k ≡ length l = omega arith in
-      let e : drop k (drop (length l - k) (l ++ free)) ≡ free = drop-drop k (length l - k) (l ++ free) ∙ ap (λ (i : ℕ). drop i (l ++ free)) j ∙ drop-append-seam l free in
-      ap (λ (y : List ℕ). paste y (length l - k) (replicate k 0) k) rest-moved ∙ rest-zeroed (drop (length l - k) (l ++ free)) e ∙ rest-padded
-
-pub host-popped : (s : State) (k : ℕ) → Placed s → k ≤ length (s .transfer .host) → set (paste (paste (imageOf s) hostBytesPlace (drop (hostBytesPlace + k) (imageOf s)) (length (s .transfer .host) - k)) (hostBytesPlace + (length (s .transfer .host) - k)) (replicate k 0) k) hostCountPlace (length (s .transfer .host) - k) ≡ imageOf (withHost (drop k (s .transfer .host)) s)
-host-popped s k p h =
-    let l : List ℕ = s .transfer .host in
-    let x : List ℕ = frontOf s in
-    let q : List ℕ = padded 128 l in
-    let r : ℕ = length l - k in
-    let f : length x ≡ hostBytesPlace = front-length s p in
-    let d : drop (hostBytesPlace + k) (x ++ q) ≡ drop k q = ap (λ (j : ℕ). drop (j + k) (x ++ q)) (sym f) ∙ drop-append-add x q k in
-    let a : paste (x ++ q) hostBytesPlace (drop k q) r ≡ x ++ paste q 0 (drop k q) r = paste-at x q (drop k q) hostBytesPlace 0 r f in
-    let b : paste (x ++ paste q 0 (drop k q) r) (hostBytesPlace + r) (replicate k 0) k ≡ x ++ paste (paste q 0 (drop k q) r) r (replicate k 0) k = paste-at x (paste q 0 (drop k q) r) (replicate k 0) hostBytesPlace r k f in
-    let g : paste (paste (x ++ q) hostBytesPlace (drop (hostBytesPlace + k) (x ++ q)) r) (hostBytesPlace + r) (replicate k 0) k ≡ x ++ padded 128 (drop k l) =
-    ap (λ (y : List ℕ). paste (paste (x ++ q) hostBytesPlace y r) (hostBytesPlace + r) (replicate k 0) k) d
-    ∙ ap (λ (y : List ℕ). paste y (hostBytesPlace + r) (replicate k 0) k) a
-    ∙ b
-    ∙ ap (λ (y : List ℕ). x ++ y) (popped-places l k h (p .host))
-    in
-    ap (λ (y : List ℕ). set (paste (paste y hostBytesPlace (drop (hostBytesPlace + k) y) r) (hostBytesPlace + r) (replicate k 0) k) hostCountPlace r) (image-split s)
-    ∙ ap (λ (y : List ℕ). set y hostCountPlace r) g
-    ∙ ap (λ (j : ℕ). set (x ++ padded 128 (drop k l)) hostCountPlace j) (sym (length-drop k l))
-    ∙ host-image s (drop k l)
-
 -- an array of which it is known which state it is the image of
 module _ {m : List ℕ} {s : State} (p : Placed s) (e : m ≡ imageOf s) where
   pub counted : getD m hostCountPlace 0 ≡ length (s .transfer .host)
@@ -132,15 +76,9 @@ module _ {m : List ℕ} {s : State} (p : Placed s) (e : m ≡ imageOf s) where
       ∙ ap (λ (x : List ℕ). set (set x (hostBytesPlace + length (s .transfer .host)) b) hostCountPlace (length (s .transfer .host) + 1)) e
       ∙ host-pushed s b p (omega arith)
 
-  pub popped : (k : ℕ) {a b : List ℕ} → k ≤ getD m hostCountPlace 0 → a ≡ paste m hostBytesPlace (drop (hostBytesPlace + k) m) (getD m hostCountPlace 0 - k) → b ≡ paste a (hostBytesPlace + (getD m hostCountPlace 0 - k)) (replicate k 0) k → set b hostCountPlace (getD m hostCountPlace 0 - k) ≡ imageOf (withHost (drop k (s .transfer .host)) s)
-  popped k h f g =
-      let n : getD m hostCountPlace 0 ≡ length (s .transfer .host) = counted in
-      let i : k ≤ length (s .transfer .host) = omega arith in
-      rw (g, f, n, e) (host-popped s k p i)
-
-  pub none-left : drop (getD m hostCountPlace 0) (s .transfer .host) ≡ []
-  none-left =
-      let i : length (s .transfer .host) ≤ getD m hostCountPlace 0 = omega (arith, counted) in
+  pub none-left : (n : ℕ) → n ≡ getD m hostCountPlace 0 → drop n (s .transfer .host) ≡ []
+  none-left n g =
+      let i : length (s .transfer .host) ≤ n = omega (arith, counted) in
       drop-of-length-le (s .transfer .host) i
 
   pub image-length : length m ≡ imageSize
@@ -152,11 +90,6 @@ module _ {m : List ℕ} {s : State} (p : Placed s) (e : m ≡ imageOf s) where
 
   pub count-fits : getD m hostCountPlace 0 ≤ 128
   count-fits = omega (arith, counted, p .host)
-
--- moving places keeps their number
-pub moved-length : (m : List ℕ) (at k n : ℕ) {a : List ℕ} → a ≡ paste m at (drop (at + k) m) n → length m ≡ imageSize → at + (k + n) ≤ imageSize → length a ≡ imageSize
-moved-length m at k n e q h =
-    ap length e ∙ length-paste m at (drop (at + k) m) n (omega arith) (simp length-drop (omega arith)) ∙ q
 
 -- a host FIFO that fits its places
 pub with-host : (s : State) (l : List ℕ) → Placed s → length l ≤ 128 → Placed (withHost l s)

@@ -196,9 +196,9 @@ module _ {m : List ℕ} (s : State) (e : m ≡ imageOf s) where
     pub scsi-fits : getD m scsiCountPlace 0 ≤ 8
     scsi-fits = omega (arith, scsi-counted, p .scsi)
 
-    pub no-scsi : {a : List ℕ} → a ≡ paste m scsiBytesPlace (replicate (getD m scsiCountPlace 0) 0) (getD m scsiCountPlace 0) → set a scsiCountPlace 0 ≡ imageOf (withScsi [] s)
-    no-scsi f =
+    pub no-scsi : (n : ℕ) {a : List ℕ} → n ≡ getD m scsiCountPlace 0 → a ≡ paste m scsiBytesPlace (replicate n 0) n → set a scsiCountPlace 0 ≡ imageOf (withScsi [] s)
+    no-scsi n g f =
         ap (λ (y : List ℕ). set y scsiCountPlace 0) f
-        ∙ ap (λ (j : ℕ). set (paste m scsiBytesPlace (replicate j 0) j) scsiCountPlace 0) scsi-counted
+        ∙ ap (λ (j : ℕ). set (paste m scsiBytesPlace (replicate j 0) j) scsiCountPlace 0) (g ∙ scsi-counted)
         ∙ ap (λ (y : List ℕ). set (paste y scsiBytesPlace (replicate (length (s .transfer .scsi)) 0) (length (s .transfer .scsi))) scsiCountPlace 0) e
         ∙ scsi-zeroed s p

@@ -18,11 +18,11 @@ use Rattle.rules.proofs.Rest.{handshake-full}
 use Rattle.laws.proofs.Lists.{elements, elements-all, padded-length, padded-shift}
 use Rattle.settling.specs.Parts.{startOf, passed, acknowledged}
 use Rattle.settling.proofs.ShakeParts.{passed-none}
-use Rattle.rules.specs.Changed.{withAck, withTransfer}
+use Rattle.rules.specs.Changed.{withAck, withScsi, withTransfer}
 use Rattle.image.specs.Image.{headOf, imageOf, stateAt, IsImage}
-use Rattle.settling.specs.Laid.{laid}
+use Rattle.datapath.specs.Laid.{laid}
 use Rattle.settling.specs.Steps.{byteOf}
-use Rattle.settling.proofs.Places.{Sized, flat, image-laid, scsi-joined, scsi-from}
+use Rattle.datapath.proofs.Places.{Sized, flat, image-laid, scsi-from}
 use Rattle.settling.proofs.Kept.{sized, image-long, offset-at}
 use Rattle.image.specs.Layout.{imageSize, lastPlace, offsetPlace, scsiBytesPlace, scsiCountPlace}
 use Rattle.settling.proofs.Carries.{scsi-held}
@@ -34,10 +34,6 @@ last-set : (s : State) (q : List ℕ) (b : ℕ) → set (set (laid (headOf s) q 
 unfolding laid imageOf
 last-set s q b = sym (flat (headOf (withTransfer (record { host = s .transfer .host; scsi = q; counter = s .transfer .counter; offset = s .transfer .offset; ack = s .transfer .ack; last = b }) s)) (padded 8 q) (s .stack .bytes) (padded 128 (s .transfer .host)))
 
-scsi-set : (s : State) (q : List ℕ) → set (laid (headOf s) q (s .stack .bytes) (s .transfer .host)) scsiCountPlace (length q) ≡ imageOf (withTransfer (record { host = s .transfer .host; scsi = q; counter = s .transfer .counter; offset = s .transfer .offset; ack = s .transfer .ack; last = s .transfer .last }) s)
-unfolding laid imageOf
-scsi-set s q = sym (flat (headOf (withTransfer (record { host = s .transfer .host; scsi = q; counter = s .transfer .counter; offset = s .transfer .offset; ack = s .transfer .ack; last = s .transfer .last }) s)) (padded 8 q) (s .stack .bytes) (padded 128 (s .transfer .host)))
-
 -- the byte behind a place put in it; so for the eight places of the SCSI FIFO, and 0 in the last
 abbrev lower : ℕ → List ℕ → List ℕ
 lower i m = set m i (getD m (i + 1) 0)
@@ -48,10 +44,6 @@ shifted m = set (lower (scsiBytesPlace + 6) (lower (scsiBytesPlace + 5) (lower (
 shifted-eight : (s : State) (q r : List ℕ) → shifted (headOf s ++ (elements q 0 8 ++ r)) ≡ headOf s ++ (padded 8 (take 7 (drop 1 (elements q 0 8))) ++ r)
 unfolding padded
 shifted-eight s q r = refl
-
--- a store is a byte put in a place
-set-paste : (m : List ℕ) (i b : ℕ) → i < length m → set m i b ≡ paste m i (b ∷ []) 1
-set-paste m i b h = set-split m i b h ∙ sym (append-snoc (take i m) b (drop (suc i) m)) ∙ ap (λ (n : ℕ). take i m ++ (b ∷ []) ++ drop n m) (sym (add-one i))
 
 module _ (s : State) (m : List ℕ) (b n : ℕ) (p : m ≡ imageOf s) (r : InRange s) (u : n ≡ length (s .transfer .scsi)) where
   z : Sized (headOf s) (s .transfer .scsi) (s .stack .bytes) (s .transfer .host)
@@ -79,15 +71,6 @@ module _ (s : State) (m : List ℕ) (b n : ℕ) (p : m ≡ imageOf s) (r : InRan
       ∙ ap (λ (y : ℕ). set (set (laid (headOf s) (drop 1 q) (s .stack .bytes) (s .transfer .host)) lastPlace (getD q 0 0)) scsiCountPlace y) x
       ∙ last-set s (drop 1 q) (getD q 0 0)
 
-  stored-made : length (s .transfer .scsi) < 8 → set (set m (scsiBytesPlace + n) b) scsiCountPlace (n + 1) ≡ imageOf (withTransfer (passed false (b ∷ []) (s .transfer)) s)
-  unfolding passed
-  stored-made h =
-      let l : length m ≡ imageSize = ap length p ∙ image-long s (r .transfer) (r .stack) in
-      let g : set m (scsiBytesPlace + n) b ≡ laid (headOf s) (s .transfer .scsi ++ (b ∷ [])) (s .stack .bytes) (s .transfer .host) = set-paste m (scsiBytesPlace + n) b (omega arith) ∙ ap (λ (y : List ℕ). paste y (scsiBytesPlace + n) (b ∷ []) 1) w ∙ scsi-joined z (b ∷ []) (scsiBytesPlace + n) 1 (omega arith) (omega arith) (omega arith) in
-      let x : n + 1 ≡ length (s .transfer .scsi ++ (b ∷ [])) = simp length-append (omega arith) in
-      ap (λ (y : List ℕ). set y scsiCountPlace (n + 1)) g ∙ ap (λ (y : ℕ). set (laid (headOf s) (s .transfer .scsi ++ (b ∷ [])) (s .stack .bytes) (s .transfer .host)) scsiCountPlace y) x
-      ∙ scsi-set s (s .transfer .scsi ++ (b ∷ []))
-
 -- the ACK counted in m₁
 module _ (s : State) (m₁ : List ℕ) where
   pub ack-pulse : (o : ℕ) → m₁ ≡ imageOf (counterCounted s) → o ≡ getD m₁ offsetPlace 0 - 1 → set m₁ offsetPlace o ≡ imageOf (withTransfer (acknowledged true (s .transfer)) s)
@@ -109,15 +92,13 @@ module _ (m : List ℕ) (i : IsImage m) where
   pub byte-sent : (b n : ℕ) → n ≡ getD m scsiCountPlace 0 → b ≡ getD m scsiBytesPlace 0 → 0 < length ((stateAt m) .transfer .scsi) → set (set (shifted m) lastPlace b) scsiCountPlace (n - 1) ≡ imageOf (withTransfer (passed true [] ((stateAt m) .transfer)) (stateAt m))
   byte-sent b n u v h = sent-made (stateAt m) m b n (i .packed) (i .range) (u ∙ scsi-held m i) h v
 
-  pub byte-stored : (b n : ℕ) → n ≡ getD m scsiCountPlace 0 → length ((stateAt m) .transfer .scsi) < 8 → set (set m (scsiBytesPlace + n) b) scsiCountPlace (n + 1) ≡ imageOf (withTransfer (passed false (b ∷ []) ((stateAt m) .transfer)) (stateAt m))
-  byte-stored b n u = stored-made (stateAt m) m b n (i .packed) (i .range) (u ∙ scsi-held m i)
-
 -- inbound: nothing stored, or one byte
 pub pass-none : (o y : Bool) (b : ℕ) (t : Transfer) → o ≡ false → y ≡ true → passed o (cond y [] (b ∷ [])) t ≡ t
 pass-none o y b t p q = rw (p, q) (passed-none t)
 
-pub pass-stored : (o y : Bool) (b : ℕ) (t : Transfer) → o ≡ false → y ≡ false → passed o (cond y [] (b ∷ [])) t ≡ passed false (b ∷ []) t
-pass-stored o y b t p q = rw (p, q)
+pub pass-stored : (o y : Bool) (b : ℕ) (s : State) → o ≡ false → y ≡ false → passed o (cond y [] (b ∷ [])) (s .transfer) ≡ (withScsi (s .transfer .scsi ++ (b ∷ [])) s) .transfer
+unfolding passed
+pass-stored o y b s p q = rw (p, q)
 
 pub pass-sent : (o : Bool) (l : List ℕ) (t : Transfer) → o ≡ true → passed o l t ≡ passed true [] t
 unfolding passed

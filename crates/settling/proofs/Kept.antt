@@ -22,8 +22,8 @@ use Rattle.rules.specs.Changed.{withTransfer}
 use Rattle.image.specs.Image.{headOf, imageOf, stateAt, registersAt, linesAt, transferAt, statusOf, latchesOf, IsImage}
 use Rattle.image.proofs.EightBits.{is-one}
 use Rattle.datapath.proofs.Heads.{bytes-joined}
-use Rattle.settling.specs.Laid.{laid}
-use Rattle.settling.proofs.Places.{Sized, image-laid, laid-long, host-from, scsi-from}
+use Rattle.datapath.specs.Laid.{laid}
+use Rattle.datapath.proofs.Places.{Sized, image-laid, laid-long, host-from, scsi-from}
 use Rattle.image.specs.Layout.{ackPlace, counterHighPlace, counterLowPlace, counterMiddlePlace, hostBytesPlace, hostCountPlace, identityPlace, imageSize, lastPlace, latchesPlace, offsetPlace, pointerPlace, quietPlace, scsiBytesPlace, scsiCountPlace, stackBytesPlace, statusPlace}
 
 pub scsi-count : (s : State) → getD (imageOf s) scsiCountPlace 0 ≡ length (s .transfer .scsi)

@@ -18,7 +18,6 @@ use image::layout::LINES_DATA;
 use image::layout::OFFSET;
 use rules::chip::Conditions;
 
-mod copies;
 mod moves;
 mod shakes;
 

@@ -12,6 +12,7 @@ ghost use Rattle.settling.specs.Parts.{passed, acknowledged};
 ghost use Rattle.settling.specs.Steps.{sentWith, byteOf, shakenOf};
 use datapath::counts::acknowledged;
 use datapath::counts::counter_counted;
+use datapath::scsi::scsi_pushed;
 use fifos::sent::Sent;
 use image::bits::automatic_ack;
 use image::layout::Image;
@@ -79,17 +80,6 @@ fn byte_sent(m: &mut Image) -> u8
     b
 }
 
-// The byte seen is stored.
-fn byte_stored(m: &mut Image, b: u8)
-    requires { ⌜ IsImage (now m) ⌝ }
-    requires { ⌜ length ((stateAt (now m)) .transfer .scsi) < 8 ⌝ }
-    ensures { λ _. ⌜ now (m .exit) ≡ imageOf (withTransfer (passed false (b ∷ []) ((stateAt (now (m .entry))) .transfer)) (stateAt (now (m .entry)))) ⌝ }
-{
-    let n = crate::copies::wide(m[SCSI_COUNT]);
-    m[SCSI_BYTES + n] = b;
-    m[SCSI_COUNT] = (n + 1) as u8;
-}
-
 // The byte of a handshake; a synchronous inbound one is stored already.
 fn byte_passed(m: &mut Image, c: Conditions, sent: Sent) -> Sent
     requires { ⌜ IsImage (now m) ⌝ }
@@ -105,7 +95,7 @@ fn byte_passed(m: &mut Image, c: Conditions, sent: Sent) -> Sent
     if c.synchronous {
         return sent;
     }
-    byte_stored(m, c.byte);
+    scsi_pushed(m, c.byte);
     sent
 }
 

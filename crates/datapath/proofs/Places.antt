@@ -4,15 +4,15 @@ use mathlib.Core.Path.{_≡_, refl, sym, ap, _∙_}
 use mathlib.Core.List.{List, [], _++_, append-assoc, append-nil}
 use native.Mathlib.Omega.{arith}
 use lib.ListN.{length, take, drop, set, getD, length-append}
-use lib.Seq.{paste, take-at, drop-at, take-append-le, length-take-le}
+use lib.Seq.{paste, length-paste, take-at, drop-at, take-append-le, length-take-le}
 use Rattle.rules.specs.Numbers.{padded}
-use Rattle.rules.specs.State.{State, Transfer}
+use Rattle.rules.specs.State.{State}
 use Rattle.laws.proofs.Lists.{padded-length, padded-take}
-use Rattle.rules.specs.Changed.{withTransfer}
+use Rattle.rules.specs.Changed.{withHost, withScsi}
 use Rattle.image.specs.Image.{headOf, imageOf}
 use Rattle.image.specs.Layout.{hostBytesPlace, imageSize, scsiBytesPlace, scsiCountPlace, hostCountPlace}
-use Rattle.settling.specs.Laid.{laid, lowered}
-use Rattle.settling.proofs.Parts.{join-at, lower-at}
+use Rattle.datapath.specs.Laid.{laid, lowered}
+use Rattle.datapath.proofs.Within.{join-at, lower-at}
 
 pub flat : (a b c d : List ℕ) → a ++ b ++ c ++ d ≡ a ++ (b ++ (c ++ (d ++ [])))
 flat a b c d = simp (append-assoc, append-nil)
@@ -20,6 +20,9 @@ flat a b c d = simp (append-assoc, append-nil)
 pub image-laid : (s : State) → imageOf s ≡ laid (headOf s) (s .transfer .scsi) (s .stack .bytes) (s .transfer .host)
 unfolding imageOf laid
 image-laid s = flat (headOf s) (padded 8 (s .transfer .scsi)) (s .stack .bytes) (padded 128 (s .transfer .host))
+
+pub pasted-long : (m m₁ : List ℕ) (at : ℕ) (s : List ℕ) (n : ℕ) → m₁ ≡ paste m at s n → length m ≡ imageSize → at + n ≤ imageSize → n ≤ length s → length m₁ ≡ imageSize
+pasted-long m m₁ at s n e l h k = ap length e ∙ length-paste m at s n (omega arith) k ∙ l
 
 -- the parts are as long as their places
 pub record Sized (a q k h : List ℕ) : Type 0 where
@@ -83,8 +86,11 @@ module _ {a q k h : List ℕ} (z : Sized a q k h) where
       ap (take n) (drop-at a (padded 8 q ++ (k ++ (padded 128 h ++ []))) scsiBytesPlace (z .head) ∙ append-assoc q _ _)
       ∙ take-append-le n q _ e
 
--- the counts of what stands in the places
-module _ (s : State) (q h : List ℕ) where
-  pub counts-set : set (set (laid (headOf s) q (s .stack .bytes) h) scsiCountPlace (length q)) hostCountPlace (length h) ≡ imageOf (withTransfer (record { host = h; scsi = q; counter = s .transfer .counter; offset = s .transfer .offset; ack = s .transfer .ack; last = s .transfer .last }) s)
-  unfolding laid imageOf
-  counts-set = sym (flat (headOf (withTransfer (record { host = h; scsi = q; counter = s .transfer .counter; offset = s .transfer .offset; ack = s .transfer .ack; last = s .transfer .last }) s)) (padded 8 q) (s .stack .bytes) (padded 128 h))
+-- another list in a FIFO's places, with its count
+pub scsi-set : (s : State) (q : List ℕ) → set (laid (headOf s) q (s .stack .bytes) (s .transfer .host)) scsiCountPlace (length q) ≡ imageOf (withScsi q s)
+unfolding laid imageOf
+scsi-set s q = sym (flat (headOf (withScsi q s)) (padded 8 q) (s .stack .bytes) (padded 128 (s .transfer .host)))
+
+pub host-set : (s : State) (h : List ℕ) → set (laid (headOf s) (s .transfer .scsi) (s .stack .bytes) h) hostCountPlace (length h) ≡ imageOf (withHost h s)
+unfolding laid imageOf
+host-set s h = sym (flat (headOf (withHost h s)) (padded 8 (s .transfer .scsi)) (s .stack .bytes) (padded 128 h))
