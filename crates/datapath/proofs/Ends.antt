@@ -1,18 +1,18 @@
 -- Bytes put behind a FIFO of an image, and taken off its front, with its count.
 use Prim.Native.Nat.{ℕ, suc, _+_, _-_, _<_, _≤_}
-use mathlib.Core.Path.{_≡_, refl, sym, ap, _∙_}
+use mathlib.Core.Path.{_≡_, sym, ap, _∙_}
 use mathlib.Core.List.{List, [], _∷_, _++_}
 use native.Mathlib.Omega.{arith}
 use native.Mathlib.Numerals.{add-one}
-use lib.ListN.{length, take, drop, set, length-append, length-drop}
+use lib.ListN.{length, take, drop, set, getD, length-append, length-drop}
 use lib.Seq.{paste, set-split, append-snoc, length-take-le}
 use Rattle.rules.specs.State.{State}
 use Rattle.rules.specs.Changed.{withHost, withScsi}
 use Rattle.image.specs.Image.{headOf, imageOf}
-use Rattle.image.specs.Layout.{hostBytesPlace, hostCountPlace, imageSize, scsiBytesPlace, scsiCountPlace}
+use Rattle.image.specs.Layout.{hostBytesPlace, hostCountPlace, scsiBytesPlace, scsiCountPlace}
 use Rattle.datapath.specs.Laid.{laid, lowered}
 use Rattle.datapath.specs.Ready.{Placed}
-use Rattle.datapath.proofs.Fronts.{image-length}
+use Rattle.datapath.proofs.Fronts.{sized-at, counted, image-length}
 use Rattle.datapath.proofs.Places.{Sized, image-laid, scsi-joined, host-joined, scsi-lowered, host-lowered, scsi-set, host-set}
 
 -- a store is a byte put in a place
@@ -25,7 +25,7 @@ more-long l r k h = ap (λ (j : ℕ). length l + j) (sym (length-take-le k r h))
 -- an array of which it is known which state it is the image of
 module _ {m : List ℕ} (s : State) (e : m ≡ imageOf s) (p : Placed s) where
   z : Sized (headOf s) (s .transfer .scsi) (s .stack .bytes) (s .transfer .host)
-  z = record { head = refl; scsi = p .scsi; stack = p .stack; host = p .host }
+  z = sized-at s p
 
   w : m ≡ laid (headOf s) (s .transfer .scsi) (s .stack .bytes) (s .transfer .host)
   w = e ∙ image-laid s
@@ -67,6 +67,12 @@ module _ {m : List ℕ} (s : State) (e : m ≡ imageOf s) (p : Placed s) where
         ∙ ap (set (laid (headOf s) (s .transfer .scsi) (s .stack .bytes) q) hostCountPlace) c
         ∙ host-set s q
 
-  -- one byte behind the SCSI FIFO
+  -- one byte behind a FIFO
   pub scsi-one-more : (n b : ℕ) → n ≡ length (s .transfer .scsi) → n < 8 → set (set m (scsiBytesPlace + n) b) scsiCountPlace (n + 1) ≡ imageOf (withScsi (s .transfer .scsi ++ (b ∷ [])) s)
   scsi-one-more n b u h = scsi-behind n 1 u (b ∷ []) (omega arith) (omega arith) (set-paste m (scsiBytesPlace + n) b (omega (arith, image-length p e)))
+
+  pub host-one-more : (b : ℕ) → getD m hostCountPlace 0 < 128 → set (set m (hostBytesPlace + getD m hostCountPlace 0) b) hostCountPlace (getD m hostCountPlace 0 + 1) ≡ imageOf (withHost (s .transfer .host ++ (b ∷ [])) s)
+  host-one-more b h =
+      let n : ℕ = getD m hostCountPlace 0 in
+      let u : n ≡ length (s .transfer .host) = counted p e in
+      host-behind n 1 u (b ∷ []) (omega arith) (omega arith) (set-paste m (hostBytesPlace + n) b (omega (arith, image-length p e)))

@@ -1,20 +1,16 @@
--- Stores in the head of an image: the counter's bytes, the ACK and the offset; and the SCSI FIFO behind it.
-use Prim.Native.Nat.{ℕ, _+_, _*_, _-_, _<_, _≤_}
+-- Stores in the head of an image: the counter's bytes, the ACK and the offset; and the SCSI FIFO's count.
+use Prim.Native.Nat.{ℕ, _+_, _*_, _<_, _≤_}
 use mathlib.Core.Path.{_≡_, refl, ap, sym, _∙_}
 use mathlib.Core.Bool.{true}
-use mathlib.Core.List.{List, [], _++_, append-assoc}
+use mathlib.Core.List.{List, []}
 use native.Mathlib.Omega.{arith}
-use native.Mathlib.Nat.{zero-add}
-use lib.ListN.{length, take, drop, set, getD, replicate, length-replicate, replicate-append-replicate}
-use lib.Seq.{paste, take-all, drop-append-seam}
-use Rattle.rules.specs.Numbers.{padded}
+use lib.ListN.{length, drop, set, getD, drop-of-length-le}
 use Rattle.rules.specs.Counter.{counterSize, counted, counterByte, counterWith}
 use Rattle.rules.specs.State.{State}
-use Rattle.image.specs.Image.{imageOf, headOf}
-use Rattle.rules.specs.Changed.{withScsi, withCounter, withOffset, withAck}
-use Rattle.image.specs.Layout.{ackPlace, counterHighPlace, counterLowPlace, counterMiddlePlace, offsetPlace, scsiCountPlace, scsiBytesPlace}
+use Rattle.image.specs.Image.{imageOf}
+use Rattle.rules.specs.Changed.{withCounter, withOffset, withAck}
+use Rattle.image.specs.Layout.{ackPlace, counterHighPlace, counterLowPlace, counterMiddlePlace, offsetPlace, scsiCountPlace}
 use Rattle.datapath.specs.Ready.{Placed, counterWritten, counterCounted}
-use Rattle.datapath.proofs.Fronts.{paste-at}
 
 -- the three bytes of a number stand for it
 pub stored : (s : State) (n : ℕ) → set (set (set (imageOf s) counterLowPlace (counterByte 0 n)) counterMiddlePlace (counterByte 1 n)) counterHighPlace (counterByte 2 n) ≡ imageOf (withCounter n s)
@@ -115,45 +111,9 @@ pub offset-stored : (s : State) (n : ℕ) → set (imageOf s) offsetPlace n ≡ 
 unfolding imageOf
 offset-stored s n = refl
 
--- the SCSI FIFO's places zeroed
-module _ (l r : List ℕ) (b : length l ≤ 8) where
-  abbrev free : List ℕ
-  free = replicate (8 - length l) 0
-
-  places-zeroed : paste (padded 8 l ++ r) 0 (replicate (length l) 0) (length l) ≡ padded 8 [] ++ r
-  unfolding padded
-  places-zeroed =
-      let o : List ℕ = replicate (length l) 0 in
-      let t : take (length l) o ≡ o = take-all (length l) o (simp length-replicate (omega arith)) in
-      let d : drop (0 + length l) (l ++ free ++ r) ≡ free ++ r = ap (λ (j : ℕ). drop j (l ++ free ++ r)) (zero-add (length l)) ∙ ap (λ (y : List ℕ). drop (length l) y) (append-assoc l free r) ∙ drop-append-seam l (free ++ r) in
-      let n : length l + (8 - length l) ≡ 8 = omega arith in
-      let z : o ++ free ≡ replicate 8 0 = replicate-append-replicate (length l) (8 - length l) 0 ∙ ap (λ (j : ℕ). replicate j 0) n in
-      ap (λ (y : List ℕ). y ++ drop (0 + length l) (l ++ free ++ r)) t
-      ∙ ap (λ (y : List ℕ). o ++ y) d
-      ∙ sym (append-assoc o free r)
-      ∙ ap (λ (y : List ℕ). y ++ r) z
-
-behind-head : (s : State) → imageOf s ≡ headOf s ++ (padded 8 (s .transfer .scsi) ++ (s .stack .bytes ++ padded 128 (s .transfer .host)))
-unfolding imageOf
-behind-head s = append-assoc (headOf s ++ padded 8 (s .transfer .scsi)) (s .stack .bytes) (padded 128 (s .transfer .host)) ∙ append-assoc (headOf s) (padded 8 (s .transfer .scsi)) (s .stack .bytes ++ padded 128 (s .transfer .host))
-
-scsi-count : (s : State) → getD (imageOf s) scsiCountPlace 0 ≡ length (s .transfer .scsi)
+pub scsi-count : (s : State) → getD (imageOf s) scsiCountPlace 0 ≡ length (s .transfer .scsi)
 unfolding imageOf
 scsi-count s = refl
-
-no-count : (s : State) (q : List ℕ) → set (headOf s ++ q) scsiCountPlace 0 ≡ headOf (withScsi [] s) ++ q
-no-count s q = refl
-
-scsi-zeroed : (s : State) → Placed s → set (paste (imageOf s) scsiBytesPlace (replicate (length (s .transfer .scsi)) 0) (length (s .transfer .scsi))) scsiCountPlace 0 ≡ imageOf (withScsi [] s)
-scsi-zeroed s p =
-    let l : List ℕ = s .transfer .scsi in
-    let n : ℕ = length l in
-    let r : List ℕ = s .stack .bytes ++ padded 128 (s .transfer .host) in
-    let a : paste (headOf s ++ (padded 8 l ++ r)) scsiBytesPlace (replicate n 0) n ≡ headOf s ++ paste (padded 8 l ++ r) 0 (replicate n 0) n = paste-at (headOf s) (padded 8 l ++ r) (replicate n 0) scsiBytesPlace 0 n refl in
-    ap (λ (y : List ℕ). set (paste y scsiBytesPlace (replicate n 0) n) scsiCountPlace 0) (behind-head s)
-    ∙ ap (λ (y : List ℕ). set y scsiCountPlace 0) (a ∙ ap (λ (y : List ℕ). headOf s ++ y) (places-zeroed l r (p .scsi)))
-    ∙ no-count s (padded 8 [] ++ r)
-    ∙ sym (behind-head (withScsi [] s))
 
 -- an array of which it is known which state it is the image of
 module _ {m : List ℕ} (s : State) (e : m ≡ imageOf s) where
@@ -193,12 +153,7 @@ module _ {m : List ℕ} (s : State) (e : m ≡ imageOf s) where
     pub scsi-counted : getD m scsiCountPlace 0 ≡ length (s .transfer .scsi)
     scsi-counted = ap (λ (y : List ℕ). getD y scsiCountPlace 0) e ∙ scsi-count s
 
-    pub scsi-fits : getD m scsiCountPlace 0 ≤ 8
-    scsi-fits = omega (arith, scsi-counted, p .scsi)
-
-    pub no-scsi : (n : ℕ) {a : List ℕ} → n ≡ getD m scsiCountPlace 0 → a ≡ paste m scsiBytesPlace (replicate n 0) n → set a scsiCountPlace 0 ≡ imageOf (withScsi [] s)
-    no-scsi n g f =
-        ap (λ (y : List ℕ). set y scsiCountPlace 0) f
-        ∙ ap (λ (j : ℕ). set (paste m scsiBytesPlace (replicate j 0) j) scsiCountPlace 0) (g ∙ scsi-counted)
-        ∙ ap (λ (y : List ℕ). set (paste y scsiBytesPlace (replicate (length (s .transfer .scsi)) 0) (length (s .transfer .scsi))) scsiCountPlace 0) e
-        ∙ scsi-zeroed s p
+    pub no-scsi : (n : ℕ) → n ≡ getD m scsiCountPlace 0 → drop n (s .transfer .scsi) ≡ []
+    no-scsi n g =
+        let i : length (s .transfer .scsi) ≤ n = omega (arith, scsi-counted) in
+        drop-of-length-le (s .transfer .scsi) i

@@ -1,13 +1,13 @@
 -- The FIFOs in their places of the array.
-use Prim.Native.Nat.{ℕ, _+_, _-_, _<_, _≤_}
-use mathlib.Core.Path.{_≡_, refl, sym, ap, _∙_}
+use Prim.Native.Nat.{ℕ, _+_, _≤_}
+use mathlib.Core.Path.{_≡_, sym, ap, _∙_}
 use mathlib.Core.List.{List, [], _++_, append-assoc, append-nil}
 use native.Mathlib.Omega.{arith}
-use lib.ListN.{length, take, drop, set, getD, length-append}
-use lib.Seq.{paste, length-paste, take-at, drop-at, take-append-le, length-take-le}
+use lib.ListN.{length, take, drop, set, length-append}
+use lib.Seq.{paste, length-paste, drop-at, take-append-le}
 use Rattle.rules.specs.Numbers.{padded}
 use Rattle.rules.specs.State.{State}
-use Rattle.laws.proofs.Lists.{padded-length, padded-take}
+use Rattle.laws.proofs.Lists.{padded-length}
 use Rattle.rules.specs.Changed.{withHost, withScsi}
 use Rattle.image.specs.Image.{headOf, imageOf}
 use Rattle.image.specs.Layout.{hostBytesPlace, imageSize, scsiBytesPlace, scsiCountPlace, hostCountPlace}

@@ -8,7 +8,6 @@ ghost use Rattle.rules.specs.Changed.{withScsi, withOffset};
 ghost use Rattle.image.specs.Layout.{scsiCountPlace};
 use crate::copies::moved_down;
 use crate::copies::wide;
-use image::copies::zeroed;
 use image::layout::Image;
 use image::layout::OFFSET;
 use image::layout::SCSI_BYTES;
@@ -42,7 +41,6 @@ pub fn channel_cleared(m: &mut Image)
     ensures { λ _. ⌜ now (m .exit) ≡ imageOf (withOffset 0 (withScsi [] (stateAt (now (m .entry))))) ⌝ }
 {
     let n = wide(m[SCSI_COUNT]);
-    zeroed(m, SCSI_BYTES, n);
-    m[SCSI_COUNT] = 0;
+    scsi_popped(m, n);
     m[OFFSET] = 0;
 }

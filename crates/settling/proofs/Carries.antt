@@ -1,6 +1,6 @@
 -- Blocks carried between the FIFOs of an image.
 use Prim.Native.Nat.{ℕ, _+_, _≤_}
-use mathlib.Core.Path.{_≡_, sym, ap, _∙_}
+use mathlib.Core.Path.{_≡_, ap, _∙_}
 use mathlib.Core.Bool.{true, false}
 use mathlib.Core.List.{List, _++_}
 use native.Mathlib.Omega.{arith}
@@ -10,12 +10,13 @@ use Rattle.rules.specs.State.{State}
 use Rattle.rules.specs.Changed.{withTransfer, withHost, withScsi}
 use Rattle.rules.proofs.Ranges.{bytes-append, bytes-take}
 use Rattle.image.specs.Image.{headOf, imageOf, stateAt, IsImage}
-use Rattle.image.specs.Layout.{hostBytesPlace, hostCountPlace, imageSize, scsiBytesPlace, scsiCountPlace}
+use Rattle.image.specs.Layout.{hostBytesPlace, hostCountPlace, scsiBytesPlace, scsiCountPlace}
 use Rattle.datapath.proofs.Ends.{scsi-behind, host-behind}
-use Rattle.datapath.proofs.Fronts.{placed-at}
+use Rattle.datapath.proofs.Fronts.{host-count, placed-at}
+use Rattle.datapath.proofs.Heads.{scsi-count}
 use Rattle.datapath.proofs.Places.{Sized, image-laid, scsi-from, host-from}
 use Rattle.settling.specs.Parts.{carried}
-use Rattle.settling.proofs.Kept.{sized, long, kept, scsi-count, host-count}
+use Rattle.settling.proofs.Kept.{sized, long, kept}
 
 -- the counts of an image
 pub scsi-held : (m : List ℕ) → IsImage m → getD m scsiCountPlace 0 ≡ length ((stateAt m) .transfer .scsi)

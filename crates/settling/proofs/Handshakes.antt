@@ -1,12 +1,11 @@
 -- The byte and the ACK of a handshake, in an image.
-use Prim.Native.Nat.{ℕ, suc, _+_, _-_, _<_}
+use Prim.Native.Nat.{ℕ, _+_, _-_, _<_}
 use mathlib.Core.Path.{_≡_, refl, sym, ap, _∙_}
 use mathlib.Core.Bool.{Bool, true, false, cond}
 use mathlib.Core.List.{List, [], _∷_, _++_}
 use native.Mathlib.Omega.{arith}
-use native.Mathlib.Numerals.{add-one}
-use lib.ListN.{length, take, drop, set, getD, length-append, length-drop}
-use lib.Seq.{paste, set-split, append-snoc, getD-take, getD-drop}
+use lib.ListN.{length, take, drop, set, getD, length-drop}
+use lib.Seq.{getD-take, getD-drop}
 use Rattle.rules.specs.Numbers.{padded}
 use Rattle.rules.specs.State.{State, Transfer}
 use Rattle.rules.specs.StepC.{canHandshake, storedBy, handshake}
@@ -23,8 +22,8 @@ use Rattle.image.specs.Image.{headOf, imageOf, stateAt, IsImage}
 use Rattle.datapath.specs.Laid.{laid}
 use Rattle.settling.specs.Steps.{byteOf}
 use Rattle.datapath.proofs.Places.{Sized, flat, image-laid, scsi-from}
-use Rattle.settling.proofs.Kept.{sized, image-long, offset-at}
-use Rattle.image.specs.Layout.{imageSize, lastPlace, offsetPlace, scsiBytesPlace, scsiCountPlace}
+use Rattle.settling.proofs.Kept.{sized, offset-at}
+use Rattle.image.specs.Layout.{lastPlace, offsetPlace, scsiBytesPlace, scsiCountPlace}
 use Rattle.settling.proofs.Carries.{scsi-held}
 use Rattle.datapath.specs.Ready.{counterCounted}
 use Rattle.datapath.proofs.Heads.{offset-stored}

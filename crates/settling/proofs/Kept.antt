@@ -1,15 +1,14 @@
 -- An image whose data path is changed is an image, and is read back.
-use Prim.Native.Nat.{ℕ, _+_, _*_, _/_, _%_, _^_, _≤_, _<_}
+use Prim.Native.Nat.{ℕ, _+_, _*_, _<_}
 use mathlib.Core.Path.{_≡_, refl, sym, ap, _∙_, subst}
 use mathlib.Core.Bool.{Bool}
 use mathlib.Core.List.{List, [], _++_, append-assoc}
-use native.Mathlib.Omega.{arith}
 use native.Mathlib.Nat.{le-refl}
 use lib.Dec.{eqb}
 use lib.ListN.{length, take, drop, getD, length-append}
 use lib.Seq.{take-length, take-at, drop-at}
 use Rattle.rules.specs.Numbers.{one, padded}
-use Rattle.rules.specs.Counter.{counterByte, counterSize}
+use Rattle.rules.specs.Counter.{counterSize}
 use Rattle.rules.specs.State.{State, Transfer}
 use Rattle.rules.specs.Ranges.{TransferFits, TransferBytes, StackFits, InRange, InBytes}
 use Rattle.rules.specs.declared.registers.Registers.{Registers}
@@ -21,18 +20,11 @@ use Rattle.laws.proofs.Lists.{padded-length}
 use Rattle.rules.specs.Changed.{withTransfer}
 use Rattle.image.specs.Image.{headOf, imageOf, stateAt, registersAt, linesAt, transferAt, statusOf, latchesOf, IsImage}
 use Rattle.image.proofs.EightBits.{is-one}
-use Rattle.datapath.proofs.Heads.{bytes-joined}
+use Rattle.datapath.proofs.Fronts.{host-count, image-length, placed-at}
+use Rattle.datapath.proofs.Heads.{bytes-joined, scsi-count}
 use Rattle.datapath.specs.Laid.{laid}
-use Rattle.datapath.proofs.Places.{Sized, image-laid, laid-long, host-from, scsi-from}
+use Rattle.datapath.proofs.Places.{Sized, image-laid, host-from, scsi-from}
 use Rattle.image.specs.Layout.{ackPlace, counterHighPlace, counterLowPlace, counterMiddlePlace, hostBytesPlace, hostCountPlace, identityPlace, imageSize, lastPlace, latchesPlace, offsetPlace, pointerPlace, quietPlace, scsiBytesPlace, scsiCountPlace, stackBytesPlace, statusPlace}
-
-pub scsi-count : (s : State) → getD (imageOf s) scsiCountPlace 0 ≡ length (s .transfer .scsi)
-unfolding imageOf
-scsi-count s = refl
-
-pub host-count : (s : State) → getD (imageOf s) hostCountPlace 0 ≡ length (s .transfer .host)
-unfolding imageOf
-host-count s = refl
 
 pub offset-at : (s : State) → getD (imageOf s) offsetPlace 0 ≡ s .transfer .offset
 unfolding imageOf
@@ -52,9 +44,6 @@ counter-at s h = bytes-joined (s .transfer .counter) h
 
 pub sized : (s : State) → TransferFits (s .transfer) → StackFits (s .stack) → Sized (headOf s) (s .transfer .scsi) (s .stack .bytes) (s .transfer .host)
 sized s f k = record { head = refl; scsi = f .scsi; stack = k .size; host = f .host }
-
-pub image-long : (s : State) → TransferFits (s .transfer) → StackFits (s .stack) → length (imageOf s) ≡ imageSize
-image-long s f k = ap length (image-laid s) ∙ laid-long (sized s f k)
 
 same-transfer : {h h′ q q′ : List ℕ} {n n′ o o′ : ℕ} {a a′ : Bool} {l l′ : ℕ} → h ≡ h′ → q ≡ q′ → n ≡ n′ → o ≡ o′ → a ≡ a′ → l ≡ l′ → _≡_ {A = Transfer} (record { host = h; scsi = q; counter = n; offset = o; ack = a; last = l }) (record { host = h′; scsi = q′; counter = n′; offset = o′; ack = a′; last = l′ })
 same-transfer e f g h i j = cc
@@ -163,7 +152,7 @@ kept m m′ t i f b e =
 
 -- the length of an image
 pub long : (m : List ℕ) → IsImage m → length m ≡ imageSize
-long m i = ap length (i .packed) ∙ image-long (stateAt m) (i .range .transfer) (i .range .stack)
+long m i = image-length (placed-at m i) (i .packed)
 
 pub offset-held : (m : List ℕ) → IsImage m → getD m offsetPlace 0 ≡ (stateAt m) .transfer .offset
 offset-held m i = ap (λ (l : List ℕ). getD l offsetPlace 0) (i .packed) ∙ offset-at (stateAt m)

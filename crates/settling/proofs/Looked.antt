@@ -3,12 +3,10 @@ use Prim.Native.Nat.{ℕ, zero, suc}
 use mathlib.Core.Path.{_≡_, refl, sym, ap, _∙_}
 use mathlib.Core.Bool.{Bool, true, false, not, _&&_, cond, Bool·beq}
 use lib.Bits.{or-zero-r}
-use Rattle.rules.specs.State.{State, Transfer}
+use Rattle.rules.specs.State.{State}
 use Rattle.rules.specs.Seen.{normal, connected, matched, path, driving, dataDriven, dataSeen}
 use Rattle.rules.specs.StepC.{Settling, conditions, canMove, move, canSynchronous, canAsynchronous, canHandshake, handshake, turn, settle}
 use Rattle.rules.specs.declared.chip.Conditions.{Conditions}
-use Rattle.rules.specs.declared.registers.Registers.{Registers}
-use Rattle.rules.specs.declared.records.Lines.{Lines}
 use Rattle.rules.proofs.Logic.{never, left-true, right-true}
 use Rattle.settling.specs.Looks.{withByte, lookedAt}
 

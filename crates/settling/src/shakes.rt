@@ -1,7 +1,7 @@
 // One handshake: its byte, and its ACK.
 ghost use mathlib.Core.Path.{_≡_};
-ghost use mathlib.Core.Bool.{true, false};
-ghost use mathlib.Core.List.{[], _∷_};
+ghost use mathlib.Core.Bool.{true};
+ghost use mathlib.Core.List.{[]};
 ghost use Prim.Native.Nat.{_-_, _<_};
 ghost use lib.ListN.{length, getD};
 ghost use Rattle.rules.specs.StepC.{canSynchronous, canAsynchronous, canHandshake};

@@ -1,7 +1,6 @@
 use Prim.Native.Nat.{_<_}
-use mathlib.Core.Path.{_≡_, _∙_}
+use mathlib.Core.Path.{_∙_}
 use native.Mathlib.Omega.{arith}
-use lib.ListN.{length}
 use borrow.Author.Needs.{needs}
 use Rattle.image.specs.Image.{stateAt}
 use Rattle.datapath.proofs.Fronts.{placed-at}

@@ -38,7 +38,7 @@ scsi-popped-requires c κs =
     let a = w .before .before in
     let m = now (a .args .m) in (
       behind-host m (k .copied .last .0) (a .args .k) (w .wide .result) (a .pre .0) (w .wide .ensures) (a .pre .1 .0) (a .pre .1 .1) (k .copied .ensures) .0,
-      scsi-there m (k .copied .last .0) (a .args .k) (w .wide .result) (a .pre .0) (w .wide .ensures) (a .pre .1 .0) (a .pre .1 .1) (k .copied .ensures),
+      omega (arith, scsi-there m (k .copied .last .0) (a .args .k) (w .wide .result) (a .pre .0) (w .wide .ensures) (a .pre .1 .0) (a .pre .1 .1) (k .copied .ensures)),
     )
 
 returns : tie.Need-returns

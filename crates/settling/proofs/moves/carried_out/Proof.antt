@@ -38,7 +38,7 @@ host-popped-requires c κs =
     let a = w .before .before in
     let m = now (a .args .m) in (
       behind-scsi m (k .copied .last .0) (a .args .k) (w .wide .result) (a .pre .0) (w .wide .ensures) (a .pre .1 .0) (a .pre .1 .1) (k .copied .ensures) .0,
-      host-there m (k .copied .last .0) (a .args .k) (w .wide .result) (a .pre .0) (w .wide .ensures) (a .pre .1 .0) (a .pre .1 .1) (k .copied .ensures),
+      omega (arith, host-there m (k .copied .last .0) (a .args .k) (w .wide .result) (a .pre .0) (w .wide .ensures) (a .pre .1 .0) (a .pre .1 .1) (k .copied .ensures)),
     )
 
 returns : tie.Need-returns
