@@ -14,7 +14,7 @@ use Rattle.datapath.proofs.Places.{Sized, image-laid, laid-long}
 pub sized-at : (s : State) → Placed s → Sized (headOf s) (s .transfer .scsi) (s .stack .bytes) (s .transfer .host)
 sized-at s p = record { head = refl; scsi = p .scsi; stack = p .stack; host = p .host }
 
-pub host-count : (s : State) → getD (imageOf s) hostCountPlace 0 ≡ length (s .transfer .host)
+host-count : (s : State) → getD (imageOf s) hostCountPlace 0 ≡ length (s .transfer .host)
 unfolding imageOf
 host-count s = refl
 

@@ -7,20 +7,18 @@ use native.Mathlib.Omega.{arith}
 use lib.ListN.{length, drop, set, getD, drop-of-length-le}
 use Rattle.rules.specs.Counter.{counterSize, counted, counterByte, counterWith}
 use Rattle.rules.specs.State.{State}
+use Rattle.image.proofs.ReadBack.{counter-back}
 use Rattle.image.specs.Image.{imageOf}
 use Rattle.rules.specs.Changed.{withCounter, withOffset, withAck}
 use Rattle.image.specs.Layout.{ackPlace, counterHighPlace, counterLowPlace, counterMiddlePlace, offsetPlace, scsiCountPlace}
 use Rattle.datapath.specs.Ready.{Placed, counterWritten, counterCounted}
 
 -- the three bytes of a number stand for it
-pub stored : (s : State) (n : ℕ) → set (set (set (imageOf s) counterLowPlace (counterByte 0 n)) counterMiddlePlace (counterByte 1 n)) counterHighPlace (counterByte 2 n) ≡ imageOf (withCounter n s)
+stored : (s : State) (n : ℕ) → set (set (set (imageOf s) counterLowPlace (counterByte 0 n)) counterMiddlePlace (counterByte 1 n)) counterHighPlace (counterByte 2 n) ≡ imageOf (withCounter n s)
 unfolding imageOf
 stored s n = refl
 
-pub bytes-joined : (n : ℕ) → n < counterSize → counterByte 0 n + 256 * counterByte 1 n + 65536 * counterByte 2 n ≡ n
-bytes-joined n h = omega arith
-
-pub counter-bytes : (s : State) → getD (imageOf s) counterLowPlace 0 + 256 * getD (imageOf s) counterMiddlePlace 0 + 65536 * getD (imageOf s) counterHighPlace 0 ≡ counterByte 0 (s .transfer .counter) + 256 * counterByte 1 (s .transfer .counter) + 65536 * counterByte 2 (s .transfer .counter)
+counter-bytes : (s : State) → getD (imageOf s) counterLowPlace 0 + 256 * getD (imageOf s) counterMiddlePlace 0 + 65536 * getD (imageOf s) counterHighPlace 0 ≡ counterByte 0 (s .transfer .counter) + 256 * counterByte 1 (s .transfer .counter) + 65536 * counterByte 2 (s .transfer .counter)
 unfolding imageOf
 counter-bytes s = refl
 
@@ -111,7 +109,7 @@ pub offset-stored : (s : State) (n : ℕ) → set (imageOf s) offsetPlace n ≡ 
 unfolding imageOf
 offset-stored s n = refl
 
-pub scsi-count : (s : State) → getD (imageOf s) scsiCountPlace 0 ≡ length (s .transfer .scsi)
+scsi-count : (s : State) → getD (imageOf s) scsiCountPlace 0 ≡ length (s .transfer .scsi)
 unfolding imageOf
 scsi-count s = refl
 
@@ -136,8 +134,8 @@ module _ {m : List ℕ} (s : State) (e : m ≡ imageOf s) where
   no-offset = ap (λ (y : List ℕ). set y offsetPlace 0) e ∙ offset-stored s 0
 
   module _ (p : Placed s) where
-    pub number : getD m counterLowPlace 0 + 256 * getD m counterMiddlePlace 0 + 65536 * getD m counterHighPlace 0 ≡ s .transfer .counter
-    number = ap (λ (y : List ℕ). getD y counterLowPlace 0 + 256 * getD y counterMiddlePlace 0 + 65536 * getD y counterHighPlace 0) e ∙ counter-bytes s ∙ bytes-joined (s .transfer .counter) (p .counter)
+    number : getD m counterLowPlace 0 + 256 * getD m counterMiddlePlace 0 + 65536 * getD m counterHighPlace 0 ≡ s .transfer .counter
+    number = ap (λ (y : List ℕ). getD y counterLowPlace 0 + 256 * getD y counterMiddlePlace 0 + 65536 * getD y counterHighPlace 0) e ∙ counter-bytes s ∙ counter-back (s .transfer .counter) (p .counter)
 
     pub more : {k n a b c : ℕ} → k ≡ getD m counterLowPlace 0 + 256 * getD m counterMiddlePlace 0 + 65536 * getD m counterHighPlace 0 → n ≡ counted k → a ≡ counterByte 0 n → b ≡ counterByte 1 n → c ≡ counterByte 2 n → set (set (set m counterLowPlace a) counterMiddlePlace b) counterHighPlace c ≡ imageOf (counterCounted s)
     more {k} {n} {a} {b} {c} f g i j l =

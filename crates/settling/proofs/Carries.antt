@@ -12,23 +12,23 @@ use Rattle.rules.proofs.Ranges.{bytes-append, bytes-take}
 use Rattle.image.specs.Image.{headOf, imageOf, stateAt, IsImage}
 use Rattle.image.specs.Layout.{hostBytesPlace, hostCountPlace, scsiBytesPlace, scsiCountPlace}
 use Rattle.datapath.proofs.Ends.{scsi-behind, host-behind}
-use Rattle.datapath.proofs.Fronts.{host-count, placed-at}
-use Rattle.datapath.proofs.Heads.{scsi-count}
+use Rattle.datapath.proofs.Fronts.{counted, placed-at, sized-at}
+use Rattle.datapath.proofs.Heads.{scsi-counted}
 use Rattle.datapath.proofs.Places.{Sized, image-laid, scsi-from, host-from}
 use Rattle.settling.specs.Parts.{carried}
-use Rattle.settling.proofs.Kept.{sized, long, kept}
+use Rattle.settling.proofs.Kept.{long, kept}
 
 -- the counts of an image
 pub scsi-held : (m : List ℕ) → IsImage m → getD m scsiCountPlace 0 ≡ length ((stateAt m) .transfer .scsi)
-scsi-held m i = ap (λ (l : List ℕ). getD l scsiCountPlace 0) (i .packed) ∙ scsi-count (stateAt m)
+scsi-held m i = scsi-counted (stateAt m) (i .packed) (placed-at m i)
 
 pub host-held : (m : List ℕ) → IsImage m → getD m hostCountPlace 0 ≡ length ((stateAt m) .transfer .host)
-host-held m i = ap (λ (l : List ℕ). getD l hostCountPlace 0) (i .packed) ∙ host-count (stateAt m)
+host-held m i = counted (placed-at m i) (i .packed)
 
 -- m₁: a block stands behind the one FIFO, and in the other still
 module _ (m m₁ : List ℕ) (k n : ℕ) (i : IsImage m) where
   z : Sized (headOf (stateAt m)) ((stateAt m) .transfer .scsi) ((stateAt m) .stack .bytes) ((stateAt m) .transfer .host)
-  z = sized (stateAt m) (i .range .transfer) (i .range .stack)
+  z = sized-at (stateAt m) (placed-at m i)
 
   module _ (u : n ≡ getD m scsiCountPlace 0) (h : k ≤ length ((stateAt m) .transfer .host)) (l : length ((stateAt m) .transfer .scsi) + k ≤ 8) (e : m₁ ≡ paste m (scsiBytesPlace + n) (drop hostBytesPlace m) k) where
     pub behind-scsi : IsImage (set m₁ scsiCountPlace (n + k)) × (stateAt (set m₁ scsiCountPlace (n + k)) ≡ withScsi ((stateAt m) .transfer .scsi ++ take k ((stateAt m) .transfer .host)) (stateAt m))
