@@ -1,7 +1,6 @@
 // The transfer counter: document 01, "The counter reads and writes as 24 bits, 348h lowest."
 ghost use mathlib.Core.Path.{_≡_};
-ghost use Prim.Native.Nat.{_<_};
-ghost use Rattle.rules.specs.Counter.{counted, counterByte, counterWith};
+ghost use Rattle.rules.specs.Counter.{counted, counterByte};
 
 const COUNTER_SIZE: u32 = 16777216;
 
@@ -21,15 +20,4 @@ pub fn counter_byte(k: u32, n: u32) -> u8
     } else {
         0
     }
-}
-
-// The counter with byte k written.
-pub fn counter_with(k: u32, value: u8, n: u32) -> u32
-    requires { ⌜ k < 3 ⌝ }
-    ensures { λ r. ⌜ r ≡ counterWith k value n ⌝ }
-{
-    let place = 8 * k;
-    let low = n & ((1 << place) - 1);
-    let high = (n >> (place + 8)) << (place + 8);
-    high | (((value as u32) << place) | low)
 }

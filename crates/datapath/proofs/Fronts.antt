@@ -1,162 +1,35 @@
--- An image is what stands before the host FIFO, and the host FIFO's places.
-use Prim.Native.Nat.{ℕ, _+_, _-_, _<_, _≤_}
-use mathlib.Core.Path.{_≡_, refl, ap, sym, _∙_}
-use mathlib.Core.List.{List, [], _∷_, _++_, append-assoc}
+-- The host FIFO's count, and the length of an image.
+use Prim.Native.Nat.{ℕ, _≤_}
+use mathlib.Core.Path.{_≡_, refl, ap, _∙_}
+use mathlib.Core.List.{List, []}
 use native.Mathlib.Omega.{arith}
-use native.Mathlib.Nat.{zero-add, suc-add, add-assoc}
-use lib.ListN.{length, drop-of-length-le, take, drop, set, getD, replicate, length-append, length-drop, length-replicate, replicate-append-replicate}
-use lib.Seq.{paste, length-paste, take-at, take-all, drop-drop, drop-append-le, drop-append-seam, take-append-add, drop-append-add}
-use Rattle.rules.specs.Numbers.{padded}
+use lib.ListN.{length, drop-of-length-le, drop, getD}
 use Rattle.rules.specs.State.{State}
-use Rattle.laws.proofs.Lists.{padded-push, padded-length}
-use Rattle.image.specs.Image.{imageOf, headOf, stateAt, IsImage}
 use Rattle.rules.specs.Changed.{withHost}
-use Rattle.image.specs.Layout.{hostBytesPlace, hostCountPlace, imageSize}
+use Rattle.image.specs.Image.{headOf, imageOf, stateAt, IsImage}
+use Rattle.image.specs.Layout.{hostCountPlace, imageSize}
 use Rattle.datapath.specs.Ready.{Placed}
+use Rattle.datapath.proofs.Places.{Sized, image-laid, laid-long}
 
-abbrev pub frontOf : State → List ℕ
-frontOf s = headOf s ++ padded 8 (s .transfer .scsi) ++ s .stack .bytes
+pub sized-at : (s : State) → Placed s → Sized (headOf s) (s .transfer .scsi) (s .stack .bytes) (s .transfer .host)
+sized-at s p = record { head = refl; scsi = p .scsi; stack = p .stack; host = p .host }
 
-pub image-split : (s : State) → imageOf s ≡ frontOf s ++ padded 128 (s .transfer .host)
-unfolding imageOf
-image-split s = refl
-
-pub front-length : (s : State) → Placed s → length (frontOf s) ≡ 68
-front-length s p =
-    let e : length (padded 8 (s .transfer .scsi)) ≡ 8 = padded-length 8 (s .transfer .scsi) (p .scsi) in
-    simp length-append (omega (arith, e, p .stack))
-
-pub host-count : (s : State) → getD (imageOf s) hostCountPlace 0 ≡ length (s .transfer .host)
+host-count : (s : State) → getD (imageOf s) hostCountPlace 0 ≡ length (s .transfer .host)
 unfolding imageOf
 host-count s = refl
-
--- the count of another list, with its bytes
-pub host-image : (s : State) (l : List ℕ) → set (frontOf s ++ padded 128 l) 24 (length l) ≡ imageOf (withHost l s)
-unfolding imageOf
-host-image s l = refl
-
--- a store past the front
-pub set-past : (x q : List ℕ) (i b : ℕ) → set (x ++ q) (length x + i) b ≡ x ++ set q i b
-set-past [] q i b = ap (λ (j : ℕ). set q j b) (zero-add i)
-set-past (a ∷ x) q i b = rw (suc-add (length x) i, set-past x q i b)
-
-pub host-pushed : (s : State) (b : ℕ) → Placed s → length (s .transfer .host) < 128 → set (set (imageOf s) (hostBytesPlace + length (s .transfer .host)) b) hostCountPlace (length (s .transfer .host) + 1) ≡ imageOf (withHost (s .transfer .host ++ (b ∷ [])) s)
-host-pushed s b p h =
-    let l : List ℕ = s .transfer .host in
-    let f : length (frontOf s) ≡ 68 = front-length s p in
-    let n : length l + 1 ≡ length (l ++ (b ∷ [])) = sym (length-append l (b ∷ [])) in
-    let e : set (imageOf s) (hostBytesPlace + length l) b ≡ frontOf s ++ padded 128 (l ++ (b ∷ [])) =
-    ap (λ (m : List ℕ). set m (hostBytesPlace + length l) b) (image-split s)
-    ∙ ap (λ (j : ℕ). set (frontOf s ++ padded 128 l) (j + length l) b) (sym f)
-    ∙ set-past (frontOf s) (padded 128 l) (length l) b
-    ∙ ap (λ (q : List ℕ). frontOf s ++ q) (padded-push 128 l b h)
-    in
-    ap (λ (m : List ℕ). set m hostCountPlace (length l + 1)) e
-    ∙ ap (λ (j : ℕ). set (frontOf s ++ padded 128 (l ++ (b ∷ []))) 24 j) n
-    ∙ host-image s (l ++ (b ∷ []))
-
--- places overwritten past the front
-pub paste-past : (x q t : List ℕ) (i n : ℕ) → paste (x ++ q) (length x + i) t n ≡ x ++ paste q i t n
-paste-past x q t i n =
-    let d : drop (length x + i + n) (x ++ q) ≡ drop (i + n) q = ap (λ (j : ℕ). drop j (x ++ q)) (add-assoc (length x) i n) ∙ drop-append-add x q (i + n) in
-    rw (take-append-add x q i, d) (append-assoc (x ++ take i q) (take n t) (drop (i + n) q) ∙ append-assoc x (take i q) (take n t ++ drop (i + n) q) ∙ ap (λ (y : List ℕ). x ++ y) (sym (append-assoc (take i q) (take n t) (drop (i + n) q))))
-
-pub paste-at : (x q t : List ℕ) (m i n : ℕ) → length x ≡ m → paste (x ++ q) (m + i) t n ≡ x ++ paste q i t n
-paste-at x q t m i n e = rw (← e) (paste-past x q t i n)
-
--- the places without the k oldest: the rest first, then k zeros
-module _ (l : List ℕ) (k : ℕ) (h : k ≤ length l) (b : length l ≤ 128) where
-  abbrev free : List ℕ
-  free = replicate (128 - length l) 0
-
-  rest-length : length (drop k l) ≡ length l - k
-  rest-length = length-drop k l
-
-  rest-moved : paste (l ++ free) 0 (drop k (l ++ free)) (length l - k) ≡ drop k l ++ drop (length l - k) (l ++ free)
-  rest-moved =
-      let d : drop k (l ++ free) ≡ drop k l ++ free = drop-append-le k l free h in
-      let t : take (length l - k) (drop k l ++ free) ≡ drop k l = take-at (drop k l) free (length l - k) rest-length in
-      rw (d, t, zero-add (length l - k))
-
-  rest-zeroed : (q : List ℕ) → drop k q ≡ free → paste (drop k l ++ q) (length l - k) (replicate k 0) k ≡ drop k l ++ replicate k 0 ++ free
-  rest-zeroed q e =
-      let t : take (length l - k) (drop k l ++ q) ≡ drop k l = take-at (drop k l) q (length l - k) rest-length in
-      let o : List ℕ = replicate k 0 in
-      let z : take k o ≡ o = take-all k o (simp length-replicate (omega arith)) in
-      let d : drop (length l - k + k) (drop k l ++ q) ≡ free = ap (λ (j : ℕ). drop (j + k) (drop k l ++ q)) (sym rest-length) ∙ drop-append-add (drop k l) q k ∙ e in
-      rw (t, z, d)
-
-  rest-padded : drop k l ++ replicate k 0 ++ free ≡ padded 128 (drop k l)
-  unfolding padded
-  rest-padded =
-      let n : k + (128 - length l) ≡ 128 - length (drop k l) = simp length-drop (omega arith) in
-      rw (append-assoc (drop k l) (replicate {A = ℕ} k 0) free, replicate-append-replicate {A = ℕ} k (128 - length l) 0, n)
-
-  pub popped-places : paste (paste (padded 128 l) 0 (drop k (padded 128 l)) (length l - k)) (length l - k) (replicate k 0) k ≡ padded 128 (drop k l)
-  unfolding padded
-  popped-places =
-      let j : length l - k + k ≡ length l = omega arith in
-      let e : drop k (drop (length l - k) (l ++ free)) ≡ free = drop-drop k (length l - k) (l ++ free) ∙ ap (λ (i : ℕ). drop i (l ++ free)) j ∙ drop-append-seam l free in
-      ap (λ (y : List ℕ). paste y (length l - k) (replicate k 0) k) rest-moved ∙ rest-zeroed (drop (length l - k) (l ++ free)) e ∙ rest-padded
-
-pub host-popped : (s : State) (k : ℕ) → Placed s → k ≤ length (s .transfer .host) → set (paste (paste (imageOf s) 68 (drop (hostBytesPlace + k) (imageOf s)) (length (s .transfer .host) - k)) (hostBytesPlace + (length (s .transfer .host) - k)) (replicate k 0) k) hostCountPlace (length (s .transfer .host) - k) ≡ imageOf (withHost (drop k (s .transfer .host)) s)
-host-popped s k p h =
-    let l : List ℕ = s .transfer .host in
-    let x : List ℕ = frontOf s in
-    let q : List ℕ = padded 128 l in
-    let r : ℕ = length l - k in
-    let f : length x ≡ 68 = front-length s p in
-    let d : drop (hostBytesPlace + k) (x ++ q) ≡ drop k q = ap (λ (j : ℕ). drop (j + k) (x ++ q)) (sym f) ∙ drop-append-add x q k in
-    let a : paste (x ++ q) 68 (drop k q) r ≡ x ++ paste q 0 (drop k q) r = paste-at x q (drop k q) 68 0 r f in
-    let b : paste (x ++ paste q 0 (drop k q) r) (hostBytesPlace + r) (replicate k 0) k ≡ x ++ paste (paste q 0 (drop k q) r) r (replicate k 0) k = paste-at x (paste q 0 (drop k q) r) (replicate k 0) 68 r k f in
-    let g : paste (paste (x ++ q) 68 (drop (hostBytesPlace + k) (x ++ q)) r) (hostBytesPlace + r) (replicate k 0) k ≡ x ++ padded 128 (drop k l) =
-    ap (λ (y : List ℕ). paste (paste (x ++ q) 68 y r) (hostBytesPlace + r) (replicate k 0) k) d
-    ∙ ap (λ (y : List ℕ). paste y (hostBytesPlace + r) (replicate k 0) k) a
-    ∙ b
-    ∙ ap (λ (y : List ℕ). x ++ y) (popped-places l k h (p .host))
-    in
-    ap (λ (y : List ℕ). set (paste (paste y 68 (drop (hostBytesPlace + k) y) r) (hostBytesPlace + r) (replicate k 0) k) hostCountPlace r) (image-split s)
-    ∙ ap (λ (y : List ℕ). set y hostCountPlace r) g
-    ∙ ap (λ (j : ℕ). set (x ++ padded 128 (drop k l)) 24 j) (sym (length-drop k l))
-    ∙ host-image s (drop k l)
 
 -- an array of which it is known which state it is the image of
 module _ {m : List ℕ} {s : State} (p : Placed s) (e : m ≡ imageOf s) where
   pub counted : getD m hostCountPlace 0 ≡ length (s .transfer .host)
-  counted = ap (λ (x : List ℕ). getD x 24 0) e ∙ host-count s
+  counted = ap (λ (x : List ℕ). getD x hostCountPlace 0) e ∙ host-count s
 
-  pub pushed : (b : ℕ) → getD m hostCountPlace 0 < 128 → set (set m (hostBytesPlace + getD m hostCountPlace 0) b) hostCountPlace (getD m hostCountPlace 0 + 1) ≡ imageOf (withHost (s .transfer .host ++ (b ∷ [])) s)
-  pushed b h =
-      let n : getD m hostCountPlace 0 ≡ length (s .transfer .host) = counted in
-      ap (λ (j : ℕ). set (set m (hostBytesPlace + j) b) hostCountPlace (j + 1)) n
-      ∙ ap (λ (x : List ℕ). set (set x (hostBytesPlace + length (s .transfer .host)) b) 24 (length (s .transfer .host) + 1)) e
-      ∙ host-pushed s b p (omega arith)
-
-  pub popped : (k : ℕ) {a b : List ℕ} → k ≤ getD m hostCountPlace 0 → a ≡ paste m 68 (drop (hostBytesPlace + k) m) (getD m hostCountPlace 0 - k) → b ≡ paste a (hostBytesPlace + (getD m hostCountPlace 0 - k)) (replicate k 0) k → set b 24 (getD m hostCountPlace 0 - k) ≡ imageOf (withHost (drop k (s .transfer .host)) s)
-  popped k h f g =
-      let n : getD m hostCountPlace 0 ≡ length (s .transfer .host) = counted in
-      let i : k ≤ length (s .transfer .host) = omega arith in
-      rw (g, f, n, e) (host-popped s k p i)
-
-  pub none-left : drop (getD m hostCountPlace 0) (s .transfer .host) ≡ []
-  none-left =
-      let i : length (s .transfer .host) ≤ getD m hostCountPlace 0 = omega (arith, counted) in
+  pub none-left : (n : ℕ) → n ≡ getD m hostCountPlace 0 → drop n (s .transfer .host) ≡ []
+  none-left n g =
+      let i : length (s .transfer .host) ≤ n = omega (arith, counted) in
       drop-of-length-le (s .transfer .host) i
 
   pub image-length : length m ≡ imageSize
-  image-length =
-      let l : List ℕ = s .transfer .host in
-      let n : length (padded 128 l) ≡ 128 = padded-length 128 l (p .host) in
-      let f : length (frontOf s) ≡ 68 = front-length s p in
-      ap length (e ∙ image-split s) ∙ length-append (frontOf s) (padded 128 l) ∙ omega (arith, n, f)
-
-  pub count-fits : getD m hostCountPlace 0 ≤ 128
-  count-fits = omega (arith, counted, p .host)
-
--- moving places keeps their number
-pub moved-length : (m : List ℕ) (at k n : ℕ) {a : List ℕ} → a ≡ paste m at (drop (at + k) m) n → length m ≡ imageSize → at + (k + n) ≤ imageSize → length a ≡ imageSize
-moved-length m at k n e q h =
-    ap length e ∙ length-paste m at (drop (at + k) m) n (omega arith) (simp length-drop (omega arith)) ∙ q
+  image-length = ap length (e ∙ image-laid s) ∙ laid-long (sized-at s p)
 
 -- a host FIFO that fits its places
 pub with-host : (s : State) (l : List ℕ) → Placed s → length l ≤ 128 → Placed (withHost l s)

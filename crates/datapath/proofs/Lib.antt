@@ -1,2 +1,5 @@
+pub mod Ends
 pub mod Fronts
 pub mod Heads
+pub mod Places
+pub mod Within

@@ -1,8 +1,6 @@
 -- A state that fits the places of an image, and a state with one part of its data path another.
 use Prim.Native.Nat.{ℕ, _≤_, _<_}
 use mathlib.Core.Path.{_≡_}
-use mathlib.Core.Bool.{Bool}
-use mathlib.Core.List.{List}
 use lib.ListN.{length}
 use Rattle.rules.specs.State.{State}
 use Rattle.rules.specs.Counter.{counterSize, counted, counterWith}

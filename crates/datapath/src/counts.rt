@@ -1,4 +1,4 @@
-// The counter of an image: three bytes from 25 on, the lowest first; and the automatic ACK, at 18.
+// The counter of an image, in three bytes, and the automatic ACK.
 ghost use mathlib.Core.Path.{_≡_};
 ghost use mathlib.Core.Bool.{true};
 ghost use Prim.Native.Nat.{_+_, _*_};
@@ -49,8 +49,8 @@ fn joined(low: u8, middle: u8, high: u8) -> u32
     (low as u32) + 256 * (middle as u32) + 65536 * (high as u32)
 }
 
-// "adds one to the counter", modulo 16,777,216
-fn one_more(m: &mut Image)
+// One added to all three bytes.
+fn carried(m: &mut Image)
     requires { ⌜ IsImage (now m) ⌝ }
     ensures { λ _. ⌜ now (m .exit) ≡ imageOf (counterCounted (stateAt (now (m .entry)))) ⌝ }
 {
@@ -63,11 +63,24 @@ fn one_more(m: &mut Image)
     m[COUNTER_HIGH] = high;
 }
 
+// "Each ACK adds one to the counter, modulo 16,777,216"; most often the low byte alone changes.
+pub fn counter_counted(m: &mut Image)
+    requires { ⌜ IsImage (now m) ⌝ }
+    ensures { λ _. ⌜ now (m .exit) ≡ imageOf (counterCounted (stateAt (now (m .entry)))) ⌝ }
+{
+    let low = m[COUNTER_LOW];
+    if low < 255 {
+        m[COUNTER_LOW] = low + 1;
+    } else {
+        carried(m);
+    }
+}
+
 // "turns automatic ACK on, adds one to the counter"
 pub fn acknowledged(m: &mut Image)
     requires { ⌜ IsImage (now m) ⌝ }
     ensures { λ _. ⌜ now (m .exit) ≡ imageOf (withAck true (counterCounted (stateAt (now (m .entry))))) ⌝ }
 {
-    one_more(m);
+    counter_counted(m);
     m[ACK] = 1;
 }

@@ -1,4 +1,4 @@
-// The host FIFO of an image: its count at 24, its bytes from 68 on, oldest first, 0 past the count.
+// The host FIFO of an image: its count, and its bytes, oldest first, 0 past the count.
 ghost use mathlib.Core.Path.{_≡_};
 ghost use mathlib.Core.List.{[], _∷_, _++_};
 ghost use Prim.Native.Nat.{_+_, _%_, _/_, _<_, _≤_};
@@ -6,8 +6,8 @@ ghost use lib.ListN.{getD, set, drop};
 ghost use Rattle.image.specs.Image.{imageOf, stateAt, IsImage};
 ghost use Rattle.rules.specs.Changed.{withHost};
 ghost use Rattle.image.specs.Layout.{hostBytesPlace, hostCountPlace};
-use image::copies::copied;
-use image::copies::zeroed;
+use crate::copies::moved_down;
+use crate::copies::wide;
 use image::layout::HOST_BYTES;
 use image::layout::HOST_COUNT;
 use image::layout::Image;
@@ -41,17 +41,15 @@ pub fn word_pushed(m: &mut Image, word: u16)
     push(m, (word / 256) as u8);
 }
 
-// The rest moved down over the k oldest, and zeros behind it.
+// The k oldest taken off.
 pub fn host_popped(m: &mut Image, k: usize)
     requires { ⌜ IsImage (now m) ⌝ }
     requires { ⌜ k ≤ getD (now m) hostCountPlace 0 ⌝ }
     ensures { λ _. ⌜ now (m .exit) ≡ imageOf (withHost (drop k ((stateAt (now (m .entry))) .transfer .host)) (stateAt (now (m .entry)))) ⌝ }
 {
-    let n = m[HOST_COUNT] as usize;
-    let rest = n - k;
-    copied(m, HOST_BYTES + k, HOST_BYTES, rest);
-    zeroed(m, HOST_BYTES + rest, k);
-    m[HOST_COUNT] = rest as u8;
+    let n = wide(m[HOST_COUNT]);
+    moved_down(m, HOST_BYTES, n, k);
+    m[HOST_COUNT] = (n - k) as u8;
 }
 
 // "RSTFIFO empties the host FIFO."
@@ -59,6 +57,6 @@ pub fn host_emptied(m: &mut Image)
     requires { ⌜ IsImage (now m) ⌝ }
     ensures { λ _. ⌜ now (m .exit) ≡ imageOf (withHost [] (stateAt (now (m .entry)))) ⌝ }
 {
-    let n = m[HOST_COUNT] as usize;
+    let n = wide(m[HOST_COUNT]);
     host_popped(m, n);
 }

@@ -1,72 +1,81 @@
 -- Blocks carried between the FIFOs of an image.
-use Prim.Native.Nat.{ℕ, _+_, _-_, _≤_}
-use mathlib.Core.Path.{_≡_, refl, sym, ap, _∙_}
+use Prim.Native.Nat.{ℕ, _+_, _≤_}
+use mathlib.Core.Path.{_≡_, ap, _∙_}
 use mathlib.Core.Bool.{true, false}
 use mathlib.Core.List.{List, _++_}
 use native.Mathlib.Omega.{arith}
 use lib.ListN.{length, take, drop, set, getD, length-append, length-drop}
-use lib.Seq.{paste, length-paste, length-take-le}
+use lib.Seq.{paste, length-take-le}
 use Rattle.rules.specs.State.{State}
-use Rattle.rules.specs.Ranges.{InRange}
-use Rattle.settling.specs.Parts.{carried}
-use Rattle.rules.specs.Changed.{withTransfer}
+use Rattle.rules.specs.Changed.{withTransfer, withHost, withScsi}
+use Rattle.rules.proofs.Ranges.{bytes-append, bytes-take}
 use Rattle.image.specs.Image.{headOf, imageOf, stateAt, IsImage}
-use Rattle.settling.specs.Laid.{laid, lowered}
-use Rattle.settling.proofs.Places.{Sized, image-laid, scsi-joined, host-joined, scsi-lowered, host-lowered, scsi-from, host-from, counts-set}
-use Rattle.settling.proofs.Kept.{sized, image-long, scsi-count, host-count}
-use Rattle.image.specs.Layout.{hostBytesPlace, hostCountPlace, imageSize, scsiBytesPlace, scsiCountPlace}
-
-pub pasted-long : (m m₁ : List ℕ) (at : ℕ) (s : List ℕ) (n : ℕ) → m₁ ≡ paste m at s n → length m ≡ imageSize → at + n ≤ imageSize → n ≤ length s → length m₁ ≡ imageSize
-pasted-long m m₁ at s n e l h k = ap length e ∙ length-paste m at s n (omega arith) k ∙ l
+use Rattle.image.specs.Layout.{hostBytesPlace, hostCountPlace, scsiBytesPlace, scsiCountPlace}
+use Rattle.datapath.proofs.Ends.{scsi-behind, host-behind}
+use Rattle.datapath.proofs.Fronts.{counted, placed-at, sized-at}
+use Rattle.datapath.proofs.Heads.{scsi-counted}
+use Rattle.datapath.proofs.Places.{Sized, image-laid, scsi-from, host-from}
+use Rattle.settling.specs.Parts.{carried}
+use Rattle.settling.proofs.Kept.{long, kept}
 
 -- the counts of an image
 pub scsi-held : (m : List ℕ) → IsImage m → getD m scsiCountPlace 0 ≡ length ((stateAt m) .transfer .scsi)
-scsi-held m i = ap (λ (l : List ℕ). getD l 23 0) (i .packed) ∙ scsi-count (stateAt m)
+scsi-held m i = scsi-counted (stateAt m) (i .packed) (placed-at m i)
 
 pub host-held : (m : List ℕ) → IsImage m → getD m hostCountPlace 0 ≡ length ((stateAt m) .transfer .host)
-host-held m i = ap (λ (l : List ℕ). getD l 24 0) (i .packed) ∙ host-count (stateAt m)
+host-held m i = counted (placed-at m i) (i .packed)
 
--- after a block is put behind one FIFO and taken off the other, m₂ is laid out anew
-counted-out : (s : State) (q h m₂ : List ℕ) (a b : ℕ) → m₂ ≡ laid (headOf s) q (s .stack .bytes) h → a ≡ length q → b ≡ length h → set (set m₂ 23 a) 24 b ≡ imageOf (withTransfer (record { host = h; scsi = q; counter = s .transfer .counter; offset = s .transfer .offset; ack = s .transfer .ack; last = s .transfer .last }) s)
-counted-out s q h m₂ a b e f g =
-    ap (λ (l : List ℕ). set (set l 23 a) 24 b) e
-    ∙ ap (λ (n : ℕ). set (set (laid (headOf s) q (s .stack .bytes) h) 23 n) 24 b) f
-    ∙ ap (λ (n : ℕ). set (set (laid (headOf s) q (s .stack .bytes) h) 23 (length q)) 24 n) g
-    ∙ counts-set s q h
+-- m₁: a block stands behind the one FIFO, and in the other still
+module _ (m m₁ : List ℕ) (k n : ℕ) (i : IsImage m) where
+  z : Sized (headOf (stateAt m)) ((stateAt m) .transfer .scsi) ((stateAt m) .stack .bytes) ((stateAt m) .transfer .host)
+  z = sized-at (stateAt m) (placed-at m i)
 
-module _ (s : State) (m m₁ m₂ : List ℕ) (k a b : ℕ) (p : m ≡ imageOf s) (r : InRange s) (u : a ≡ length (s .transfer .scsi)) (v : b ≡ length (s .transfer .host)) where
-  z : Sized (headOf s) (s .transfer .scsi) (s .stack .bytes) (s .transfer .host)
-  z = sized s (r .transfer) (r .stack)
+  module _ (u : n ≡ getD m scsiCountPlace 0) (h : k ≤ length ((stateAt m) .transfer .host)) (l : length ((stateAt m) .transfer .scsi) + k ≤ 8) (e : m₁ ≡ paste m (scsiBytesPlace + n) (drop hostBytesPlace m) k) where
+    pub behind-scsi : IsImage (set m₁ scsiCountPlace (n + k)) × (stateAt (set m₁ scsiCountPlace (n + k)) ≡ withScsi ((stateAt m) .transfer .scsi ++ take k ((stateAt m) .transfer .host)) (stateAt m))
+    behind-scsi =
+        let s : State = stateAt m in
+        let f = i .range .transfer in
+        let b = i .bytes .transfer in
+        let q : List ℕ = s .transfer .scsi ++ take k (s .transfer .host) in
+        let t : take k (drop hostBytesPlace m) ≡ take k (s .transfer .host) = ap (λ (x : List ℕ). take k (drop hostBytesPlace x)) (i .packed ∙ image-laid s) ∙ host-from z k h in
+        let v : length (take k (s .transfer .host)) ≡ k = length-take-le k (s .transfer .host) h in
+        let j : length q ≤ 8 = simp length-append (omega (arith, v)) in
+        let d : k ≤ length (drop hostBytesPlace m) = simp length-drop (omega (arith, long m i, f .host)) in
+        kept m (set m₁ scsiCountPlace (n + k)) ((withScsi q s) .transfer) i
+        (record { host = f .host; scsi = j; counter = f .counter; offset = f .offset })
+        (record { last = b .last; host = b .host; scsi = bytes-append (s .transfer .scsi) (take k (s .transfer .host)) (b .scsi) (bytes-take k (s .transfer .host) (b .host)) })
+        (scsi-behind s (i .packed) (placed-at m i) n k (u ∙ scsi-held m i) (drop hostBytesPlace m) l d e ∙ ap (λ (x : List ℕ). imageOf (withScsi (s .transfer .scsi ++ x) s)) t)
 
-  w : m ≡ laid (headOf s) (s .transfer .scsi) (s .stack .bytes) (s .transfer .host)
-  w = p ∙ image-laid s
+    pub host-there : k ≤ getD (set m₁ scsiCountPlace (n + k)) hostCountPlace 0
+    host-there =
+        let v = behind-scsi in
+        omega (arith, h, host-held (set m₁ scsiCountPlace (n + k)) (v .0), ap (λ (x : State). length (x .transfer .host)) (v .1))
 
-  long : length m ≡ imageSize
-  long = ap length p ∙ image-long s (r .transfer) (r .stack)
+    pub carried-out : (m₂ : List ℕ) → m₂ ≡ imageOf (withHost (drop k ((stateAt (set m₁ scsiCountPlace (n + k))) .transfer .host)) (stateAt (set m₁ scsiCountPlace (n + k)))) → m₂ ≡ imageOf (withTransfer (carried true k ((stateAt m) .transfer)) (stateAt m))
+    unfolding carried
+    carried-out m₂ g = g ∙ ap (λ (x : State). imageOf (withHost (drop k (x .transfer .host)) x)) (behind-scsi .1)
 
-  out-made : k ≤ length (s .transfer .host) → length (s .transfer .scsi) + k ≤ 8 → m₁ ≡ paste m (scsiBytesPlace + a) (drop hostBytesPlace m) k → m₂ ≡ lowered m₁ 68 b k → set (set m₂ 23 (a + k)) 24 (b - k) ≡ imageOf (withTransfer (carried true k (s .transfer)) s)
-  unfolding carried
-  out-made c d e f =
-      let t : length (take k (s .transfer .host)) ≡ k = length-take-le k (s .transfer .host) c in
-      let x : length (s .transfer .scsi ++ take k (s .transfer .host)) ≡ length (s .transfer .scsi) + k = length-append (s .transfer .scsi) (take k (s .transfer .host)) ∙ ap (λ (n : ℕ). length (s .transfer .scsi) + n) t in
-      let g : m₁ ≡ laid (headOf s) (s .transfer .scsi ++ take k (s .transfer .host)) (s .stack .bytes) (s .transfer .host) = e ∙ ap (λ (l : List ℕ). paste l (scsiBytesPlace + a) (drop hostBytesPlace m) k) w ∙ scsi-joined z (drop hostBytesPlace m) (scsiBytesPlace + a) k (omega arith) d (simp length-drop (omega (arith, long, r .transfer .host))) ∙ ap (λ (l : List ℕ). laid (headOf s) (s .transfer .scsi ++ l) (s .stack .bytes) (s .transfer .host)) (ap (λ (l : List ℕ). take k (drop hostBytesPlace l)) w ∙ host-from z k c) in
-      let z₁ : Sized (headOf s) (s .transfer .scsi ++ take k (s .transfer .host)) (s .stack .bytes) (s .transfer .host) = record { head = z .head; scsi = omega (arith, x); stack = z .stack; host = z .host } in
-      let j : m₂ ≡ laid (headOf s) (s .transfer .scsi ++ take k (s .transfer .host)) (s .stack .bytes) (drop k (s .transfer .host)) = f ∙ ap (λ (l : List ℕ). lowered l 68 b k) g ∙ host-lowered z₁ b k v c in
-      counted-out s (s .transfer .scsi ++ take k (s .transfer .host)) (drop k (s .transfer .host)) m₂ (a + k) (b - k) j (omega (arith, x)) (simp length-drop (omega arith))
+  module _ (u : n ≡ getD m hostCountPlace 0) (h : k ≤ length ((stateAt m) .transfer .scsi)) (l : length ((stateAt m) .transfer .host) + k ≤ 128) (e : m₁ ≡ paste m (hostBytesPlace + n) (drop scsiBytesPlace m) k) where
+    pub behind-host : IsImage (set m₁ hostCountPlace (n + k)) × (stateAt (set m₁ hostCountPlace (n + k)) ≡ withHost ((stateAt m) .transfer .host ++ take k ((stateAt m) .transfer .scsi)) (stateAt m))
+    behind-host =
+        let s : State = stateAt m in
+        let f = i .range .transfer in
+        let b = i .bytes .transfer in
+        let q : List ℕ = s .transfer .host ++ take k (s .transfer .scsi) in
+        let t : take k (drop scsiBytesPlace m) ≡ take k (s .transfer .scsi) = ap (λ (x : List ℕ). take k (drop scsiBytesPlace x)) (i .packed ∙ image-laid s) ∙ scsi-from z k h in
+        let v : length (take k (s .transfer .scsi)) ≡ k = length-take-le k (s .transfer .scsi) h in
+        let j : length q ≤ 128 = simp length-append (omega (arith, v)) in
+        let d : k ≤ length (drop scsiBytesPlace m) = simp length-drop (omega (arith, long m i, f .scsi)) in
+        kept m (set m₁ hostCountPlace (n + k)) ((withHost q s) .transfer) i
+        (record { host = j; scsi = f .scsi; counter = f .counter; offset = f .offset })
+        (record { last = b .last; host = bytes-append (s .transfer .host) (take k (s .transfer .scsi)) (b .host) (bytes-take k (s .transfer .scsi) (b .scsi)); scsi = b .scsi })
+        (host-behind s (i .packed) (placed-at m i) n k (u ∙ host-held m i) (drop scsiBytesPlace m) l d e ∙ ap (λ (x : List ℕ). imageOf (withHost (s .transfer .host ++ x) s)) t)
 
-  in-made : k ≤ length (s .transfer .scsi) → length (s .transfer .host) + k ≤ 128 → m₁ ≡ paste m (hostBytesPlace + b) (drop scsiBytesPlace m) k → m₂ ≡ lowered m₁ 28 a k → set (set m₂ 23 (a - k)) 24 (b + k) ≡ imageOf (withTransfer (carried false k (s .transfer)) s)
-  unfolding carried
-  in-made c d e f =
-      let t : length (take k (s .transfer .scsi)) ≡ k = length-take-le k (s .transfer .scsi) c in
-      let x : length (s .transfer .host ++ take k (s .transfer .scsi)) ≡ length (s .transfer .host) + k = length-append (s .transfer .host) (take k (s .transfer .scsi)) ∙ ap (λ (n : ℕ). length (s .transfer .host) + n) t in
-      let g : m₁ ≡ laid (headOf s) (s .transfer .scsi) (s .stack .bytes) (s .transfer .host ++ take k (s .transfer .scsi)) = e ∙ ap (λ (l : List ℕ). paste l (hostBytesPlace + b) (drop scsiBytesPlace m) k) w ∙ host-joined z (drop scsiBytesPlace m) (hostBytesPlace + b) k (omega arith) d (simp length-drop (omega (arith, long, r .transfer .scsi))) ∙ ap (λ (l : List ℕ). laid (headOf s) (s .transfer .scsi) (s .stack .bytes) (s .transfer .host ++ l)) (ap (λ (l : List ℕ). take k (drop scsiBytesPlace l)) w ∙ scsi-from z k c) in
-      let z₁ : Sized (headOf s) (s .transfer .scsi) (s .stack .bytes) (s .transfer .host ++ take k (s .transfer .scsi)) = record { head = z .head; scsi = z .scsi; stack = z .stack; host = omega (arith, x) } in
-      let j : m₂ ≡ laid (headOf s) (drop k (s .transfer .scsi)) (s .stack .bytes) (s .transfer .host ++ take k (s .transfer .scsi)) = f ∙ ap (λ (l : List ℕ). lowered l 28 a k) g ∙ scsi-lowered z₁ a k u c in
-      counted-out s (drop k (s .transfer .scsi)) (s .transfer .host ++ take k (s .transfer .scsi)) m₂ (a - k) (b + k) j (simp length-drop (omega arith)) (omega (arith, x))
+    pub scsi-there : k ≤ getD (set m₁ hostCountPlace (n + k)) scsiCountPlace 0
+    scsi-there =
+        let v = behind-host in
+        omega (arith, h, scsi-held (set m₁ hostCountPlace (n + k)) (v .0), ap (λ (x : State). length (x .transfer .scsi)) (v .1))
 
-module _ (m m₁ m₂ : List ℕ) (k a b : ℕ) (i : IsImage m) (u : a ≡ getD m scsiCountPlace 0) (v : b ≡ getD m hostCountPlace 0) where
-  pub carried-out : k ≤ length ((stateAt m) .transfer .host) → length ((stateAt m) .transfer .scsi) + k ≤ 8 → m₁ ≡ paste m (scsiBytesPlace + a) (drop hostBytesPlace m) k → m₂ ≡ lowered m₁ 68 b k → set (set m₂ 23 (a + k)) 24 (b - k) ≡ imageOf (withTransfer (carried true k ((stateAt m) .transfer)) (stateAt m))
-  carried-out = out-made (stateAt m) m m₁ m₂ k a b (i .packed) (i .range) (u ∙ scsi-held m i) (v ∙ host-held m i)
-
-  pub carried-in : k ≤ length ((stateAt m) .transfer .scsi) → length ((stateAt m) .transfer .host) + k ≤ 128 → m₁ ≡ paste m (hostBytesPlace + b) (drop scsiBytesPlace m) k → m₂ ≡ lowered m₁ 28 a k → set (set m₂ 23 (a - k)) 24 (b + k) ≡ imageOf (withTransfer (carried false k ((stateAt m) .transfer)) (stateAt m))
-  carried-in = in-made (stateAt m) m m₁ m₂ k a b (i .packed) (i .range) (u ∙ scsi-held m i) (v ∙ host-held m i)
+    pub carried-in : (m₂ : List ℕ) → m₂ ≡ imageOf (withScsi (drop k ((stateAt (set m₁ hostCountPlace (n + k))) .transfer .scsi)) (stateAt (set m₁ hostCountPlace (n + k)))) → m₂ ≡ imageOf (withTransfer (carried false k ((stateAt m) .transfer)) (stateAt m))
+    unfolding carried
+    carried-in m₂ g = g ∙ ap (λ (x : State). imageOf (withScsi (drop k (x .transfer .scsi)) x)) (behind-host .1)

@@ -8,7 +8,7 @@ use native.Mathlib.Nat.{add-zero, add-assoc}
 use lib.Dec.{ltb}
 use lib.ListN.{length}
 use Rattle.rules.specs.State.{State, Transfer}
-use Rattle.rules.specs.Seen.{path}
+use Rattle.rules.specs.Seen.{path, synchronous}
 use Rattle.rules.specs.StepC.{Settling, conditions, canMove, move, canSynchronous, canAsynchronous, canHandshake, handshake, turn, settle, turns, started}
 use Rattle.rules.specs.declared.chip.Conditions.{Conditions}
 use Rattle.rules.proofs.Logic.{never}
@@ -47,7 +47,7 @@ module _ (s : State) where
   quiet-without t p = rw (middle-false (s .registers .sxfrctl0 .scsien) (path (s .registers)) _ p)
 
   quiet-after : (t : Transfer) → mayShake (withTransfer t s) ≡ false → canHandshake (lookedAt s) t ≡ false
-  unfolding mayShake lookedAt conditions canHandshake canSynchronous canAsynchronous
+  unfolding mayShake synchronous lookedAt conditions canHandshake canSynchronous canAsynchronous
   quiet-after t h =
       let c : Conditions = conditions s in
       none-can (c .enabled) (c .synchronous) (ltb 0 (t .offset)) (cond (c .outbound) (ltb 0 (length (t .scsi))) (ltb (length (t .scsi)) (t .offset)))
@@ -55,7 +55,7 @@ module _ (s : State) where
 
 -- moves leave what a handshake waits for
 moves-leave : (s : State) (o : Bool) (k : ℕ) → mayShake (stateAt (imageOf (withTransfer (carried o k (s .transfer)) s))) ≡ mayShake (stateAt (imageOf s))
-unfolding mayShake stateAt imageOf carried
+unfolding mayShake synchronous stateAt imageOf carried
 moves-leave s o k = refl
 
 -- a moves more

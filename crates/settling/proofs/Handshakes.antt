@@ -1,14 +1,12 @@
 -- The byte and the ACK of a handshake, in an image.
-use Prim.Native.Nat.{ℕ, suc, _+_, _*_, _-_, _%_, _<_, _≤_}
+use Prim.Native.Nat.{ℕ, _+_, _-_, _<_}
 use mathlib.Core.Path.{_≡_, refl, sym, ap, _∙_}
 use mathlib.Core.Bool.{Bool, true, false, cond}
 use mathlib.Core.List.{List, [], _∷_, _++_}
 use native.Mathlib.Omega.{arith}
-use native.Mathlib.Numerals.{add-one}
-use lib.ListN.{length, take, drop, set, getD, length-append, length-drop}
-use lib.Seq.{paste, set-split, append-snoc, getD-take, getD-drop}
+use lib.ListN.{length, take, drop, set, getD, length-drop}
+use lib.Seq.{getD-take, getD-drop}
 use Rattle.rules.specs.Numbers.{padded}
-use Rattle.rules.specs.Counter.{counterByte, counted, counterSize}
 use Rattle.rules.specs.State.{State, Transfer}
 use Rattle.rules.specs.StepC.{canHandshake, storedBy, handshake}
 use Rattle.rules.specs.Ranges.{InRange, Bytes, TransferFits, TransferBytes}
@@ -19,38 +17,32 @@ use Rattle.rules.proofs.Rest.{handshake-full}
 use Rattle.laws.proofs.Lists.{elements, elements-all, padded-length, padded-shift}
 use Rattle.settling.specs.Parts.{startOf, passed, acknowledged}
 use Rattle.settling.proofs.ShakeParts.{passed-none}
-use Rattle.rules.specs.Changed.{withTransfer}
+use Rattle.rules.specs.Changed.{withAck, withScsi, withTransfer}
 use Rattle.image.specs.Image.{headOf, imageOf, stateAt, IsImage}
-use Rattle.settling.specs.Laid.{laid, counterPut}
+use Rattle.datapath.specs.Laid.{laid}
 use Rattle.settling.specs.Steps.{byteOf}
-use Rattle.settling.proofs.Places.{Sized, flat, image-laid, scsi-joined, scsi-from}
-use Rattle.settling.proofs.Kept.{sized, image-long, offset-at, counter-at}
-use Rattle.image.specs.Layout.{ackPlace, counterHighPlace, counterLowPlace, counterMiddlePlace, imageSize, lastPlace, offsetPlace, scsiBytesPlace, scsiCountPlace}
+use Rattle.datapath.proofs.Places.{Sized, flat, image-laid, scsi-from}
+use Rattle.settling.proofs.Kept.{sized, offset-at}
+use Rattle.image.specs.Layout.{lastPlace, offsetPlace, scsiBytesPlace, scsiCountPlace}
 use Rattle.settling.proofs.Carries.{scsi-held}
+use Rattle.datapath.specs.Ready.{counterCounted}
+use Rattle.datapath.proofs.Heads.{offset-stored}
 
 -- another SCSI FIFO and byte last sent in their places
-last-set : (s : State) (q : List ℕ) (b : ℕ) → set (set (laid (headOf s) q (s .stack .bytes) (s .transfer .host)) 19 b) 23 (length q) ≡ imageOf (withTransfer (record { host = s .transfer .host; scsi = q; counter = s .transfer .counter; offset = s .transfer .offset; ack = s .transfer .ack; last = b }) s)
+last-set : (s : State) (q : List ℕ) (b : ℕ) → set (set (laid (headOf s) q (s .stack .bytes) (s .transfer .host)) lastPlace b) scsiCountPlace (length q) ≡ imageOf (withTransfer (record { host = s .transfer .host; scsi = q; counter = s .transfer .counter; offset = s .transfer .offset; ack = s .transfer .ack; last = b }) s)
 unfolding laid imageOf
 last-set s q b = sym (flat (headOf (withTransfer (record { host = s .transfer .host; scsi = q; counter = s .transfer .counter; offset = s .transfer .offset; ack = s .transfer .ack; last = b }) s)) (padded 8 q) (s .stack .bytes) (padded 128 (s .transfer .host)))
-
-scsi-set : (s : State) (q : List ℕ) → set (laid (headOf s) q (s .stack .bytes) (s .transfer .host)) 23 (length q) ≡ imageOf (withTransfer (record { host = s .transfer .host; scsi = q; counter = s .transfer .counter; offset = s .transfer .offset; ack = s .transfer .ack; last = s .transfer .last }) s)
-unfolding laid imageOf
-scsi-set s q = sym (flat (headOf (withTransfer (record { host = s .transfer .host; scsi = q; counter = s .transfer .counter; offset = s .transfer .offset; ack = s .transfer .ack; last = s .transfer .last }) s)) (padded 8 q) (s .stack .bytes) (padded 128 (s .transfer .host)))
 
 -- the byte behind a place put in it; so for the eight places of the SCSI FIFO, and 0 in the last
 abbrev lower : ℕ → List ℕ → List ℕ
 lower i m = set m i (getD m (i + 1) 0)
 
 abbrev shifted : List ℕ → List ℕ
-shifted m = set (lower 34 (lower 33 (lower 32 (lower 31 (lower 30 (lower 29 (lower 28 m))))))) 35 0
+shifted m = set (lower (scsiBytesPlace + 6) (lower (scsiBytesPlace + 5) (lower (scsiBytesPlace + 4) (lower (scsiBytesPlace + 3) (lower (scsiBytesPlace + 2) (lower (scsiBytesPlace + 1) (lower scsiBytesPlace m))))))) (scsiBytesPlace + 7) 0
 
 shifted-eight : (s : State) (q r : List ℕ) → shifted (headOf s ++ (elements q 0 8 ++ r)) ≡ headOf s ++ (padded 8 (take 7 (drop 1 (elements q 0 8))) ++ r)
 unfolding padded
 shifted-eight s q r = refl
-
--- a store is a byte put in a place
-set-paste : (m : List ℕ) (i b : ℕ) → i < length m → set m i b ≡ paste m i (b ∷ []) 1
-set-paste m i b h = set-split m i b h ∙ sym (append-snoc (take i m) b (drop (suc i) m)) ∙ ap (λ (n : ℕ). take i m ++ (b ∷ []) ++ drop n m) (sym (add-one i))
 
 module _ (s : State) (m : List ℕ) (b n : ℕ) (p : m ≡ imageOf s) (r : InRange s) (u : n ≡ length (s .transfer .scsi)) where
   z : Sized (headOf s) (s .transfer .scsi) (s .stack .bytes) (s .transfer .host)
@@ -73,84 +65,23 @@ module _ (s : State) (m : List ℕ) (b n : ℕ) (p : m ≡ imageOf s) (r : InRan
       let v : padded 8 (take 7 (drop 1 (elements (padded 8 q) 0 8))) ≡ padded 8 (drop 1 q) = ap (λ (l : List ℕ). padded 8 (take 7 (drop 1 l))) (sym y) ∙ padded-shift 8 1 q h (z .scsi) in
       let g : shifted m ≡ laid (headOf s) (drop 1 q) (s .stack .bytes) (s .transfer .host) = ap shifted (w ∙ ap (λ (l : List ℕ). headOf s ++ (l ++ t)) y) ∙ shifted-eight s (padded 8 q) t ∙ ap (λ (l : List ℕ). headOf s ++ (l ++ t)) v in
       let x : n - 1 ≡ length (drop 1 q) = simp length-drop (omega arith) in
-      ap (λ (l : List ℕ). set (set l 19 b) 23 (n - 1)) g
-      ∙ ap (λ (y : ℕ). set (set (laid (headOf s) (drop 1 q) (s .stack .bytes) (s .transfer .host)) 19 y) scsiCountPlace (n - 1)) (e ∙ oldest h)
-      ∙ ap (λ (y : ℕ). set (set (laid (headOf s) (drop 1 q) (s .stack .bytes) (s .transfer .host)) 19 (getD q 0 0)) 23 y) x
+      ap (λ (l : List ℕ). set (set l lastPlace b) scsiCountPlace (n - 1)) g
+      ∙ ap (λ (y : ℕ). set (set (laid (headOf s) (drop 1 q) (s .stack .bytes) (s .transfer .host)) lastPlace y) scsiCountPlace (n - 1)) (e ∙ oldest h)
+      ∙ ap (λ (y : ℕ). set (set (laid (headOf s) (drop 1 q) (s .stack .bytes) (s .transfer .host)) lastPlace (getD q 0 0)) scsiCountPlace y) x
       ∙ last-set s (drop 1 q) (getD q 0 0)
 
-  stored-made : length (s .transfer .scsi) < 8 → set (set m (scsiBytesPlace + n) b) scsiCountPlace (n + 1) ≡ imageOf (withTransfer (passed false (b ∷ []) (s .transfer)) s)
-  unfolding passed
-  stored-made h =
-      let l : length m ≡ imageSize = ap length p ∙ image-long s (r .transfer) (r .stack) in
-      let g : set m (scsiBytesPlace + n) b ≡ laid (headOf s) (s .transfer .scsi ++ (b ∷ [])) (s .stack .bytes) (s .transfer .host) = set-paste m (scsiBytesPlace + n) b (omega arith) ∙ ap (λ (y : List ℕ). paste y (scsiBytesPlace + n) (b ∷ []) 1) w ∙ scsi-joined z (b ∷ []) (scsiBytesPlace + n) 1 (omega arith) (omega arith) (omega arith) in
-      let x : n + 1 ≡ length (s .transfer .scsi ++ (b ∷ [])) = simp length-append (omega arith) in
-      ap (λ (y : List ℕ). set y scsiCountPlace (n + 1)) g ∙ ap (λ (y : ℕ). set (laid (headOf s) (s .transfer .scsi ++ (b ∷ [])) (s .stack .bytes) (s .transfer .host)) 23 y) x
-      ∙ scsi-set s (s .transfer .scsi ++ (b ∷ []))
+-- the ACK counted in m₁
+module _ (s : State) (m₁ : List ℕ) where
+  pub ack-pulse : (o : ℕ) → m₁ ≡ imageOf (counterCounted s) → o ≡ getD m₁ offsetPlace 0 - 1 → set m₁ offsetPlace o ≡ imageOf (withTransfer (acknowledged true (s .transfer)) s)
+  unfolding acknowledged
+  ack-pulse o e f =
+      let x : State = counterCounted s in
+      let g : o ≡ s .transfer .offset - 1 = f ∙ ap (λ (l : List ℕ). getD l offsetPlace 0 - 1) e ∙ ap (λ (k : ℕ). k - 1) (offset-at x) in
+      ap (λ (l : List ℕ). set l offsetPlace o) e ∙ ap (set (imageOf x) offsetPlace) g ∙ offset-stored x (s .transfer .offset - 1)
 
--- the counter and the offset, or the automatic ACK, in their places
-acked-pulse : (s : State) (n o : ℕ) → set (set (set (set (imageOf s) counterLowPlace (counterByte 0 n)) counterMiddlePlace (counterByte 1 n)) counterHighPlace (counterByte 2 n)) offsetPlace o ≡ imageOf (withTransfer (record { host = s .transfer .host; scsi = s .transfer .scsi; counter = n; offset = o; ack = s .transfer .ack; last = s .transfer .last }) s)
-unfolding imageOf
-acked-pulse s n o = refl
-
-acked-on : (s : State) (n : ℕ) → set (set (set (set (imageOf s) counterLowPlace (counterByte 0 n)) counterMiddlePlace (counterByte 1 n)) counterHighPlace (counterByte 2 n)) ackPlace 1 ≡ imageOf (withTransfer (record { host = s .transfer .host; scsi = s .transfer .scsi; counter = n; offset = s .transfer .offset; ack = true; last = s .transfer .last }) s)
-unfolding imageOf
-acked-on s n = refl
-
-offset-kept : (s : State) (x y z : ℕ) → getD (set (set (set (imageOf s) counterLowPlace x) counterMiddlePlace y) counterHighPlace z) offsetPlace 0 ≡ s .transfer .offset
-unfolding imageOf
-offset-kept s x y z = refl
-
-low-alone : (s : State) (x : ℕ) → set (imageOf s) counterLowPlace x ≡ set (set (set (imageOf s) counterLowPlace x) counterMiddlePlace (counterByte 1 (s .transfer .counter))) counterHighPlace (counterByte 2 (s .transfer .counter))
-unfolding imageOf
-low-alone s x = refl
-
-low-at : (s : State) → getD (imageOf s) counterLowPlace 0 ≡ counterByte 0 (s .transfer .counter)
-unfolding imageOf
-low-at s = refl
-
--- a low byte below 255 does not carry
-low-counts : (n : ℕ) → n < counterSize → counterByte 0 n < 255 → counterByte 0 n + 1 ≡ counterByte 0 (counted n)
-unfolding counted
-low-counts n h k = omega arith
-
-middle-stays : (n : ℕ) → n < counterSize → counterByte 0 n < 255 → counterByte 1 n ≡ counterByte 1 (counted n)
-unfolding counted
-middle-stays n h k = omega arith
-
-high-stays : (n : ℕ) → n < counterSize → counterByte 0 n < 255 → counterByte 2 n ≡ counterByte 2 (counted n)
-unfolding counted
-high-stays n h k = omega arith
-
-whole-counts : (n k : ℕ) → n ≡ k → (n % 16777216 + 1) % 16777216 ≡ counted k
-unfolding counted
-whole-counts n k e = omega arith
-
-low-made : (s : State) (m : List ℕ) → m ≡ imageOf s → s .transfer .counter < counterSize → getD m counterLowPlace 0 < 255 → set m counterLowPlace (getD m counterLowPlace 0 + 1) ≡ counterPut m (counted (s .transfer .counter))
-unfolding counterPut
-low-made s m p f h =
-    let n : ℕ = s .transfer .counter in
-    let g : getD m counterLowPlace 0 ≡ counterByte 0 n = ap (λ (l : List ℕ). getD l 25 0) p ∙ low-at s in
-    let k : counterByte 0 n < 255 = omega arith in
-    ap (λ (x : ℕ). set m counterLowPlace (x + 1)) g ∙ ap (λ (l : List ℕ). set l 25 (counterByte 0 n + 1)) p ∙ low-alone s (counterByte 0 n + 1)
-    ∙ ap (λ (x : ℕ). set (set (set (imageOf s) counterLowPlace x) counterMiddlePlace (counterByte 1 n)) counterHighPlace (counterByte 2 n)) (low-counts n f k)
-    ∙ ap (λ (x : ℕ). set (set (set (imageOf s) counterLowPlace (counterByte 0 (counted n))) counterMiddlePlace x) counterHighPlace (counterByte 2 n)) (middle-stays n f k)
-    ∙ ap (λ (x : ℕ). set (set (set (imageOf s) counterLowPlace (counterByte 0 (counted n))) counterMiddlePlace (counterByte 1 (counted n))) counterHighPlace x) (high-stays n f k)
-    ∙ ap (λ (l : List ℕ). counterPut l (counted n)) (sym p)
-
-module _ (s : State) (m m₁ : List ℕ) (o : ℕ) (p : m ≡ imageOf s) (e : m₁ ≡ counterPut m (counted (s .transfer .counter))) where
-  put : m₁ ≡ counterPut (imageOf s) (counted (s .transfer .counter))
-  put = e ∙ ap (λ (l : List ℕ). counterPut l (counted (s .transfer .counter))) p
-
-  pulse-made : o ≡ getD m₁ offsetPlace 0 - 1 → set m₁ offsetPlace o ≡ imageOf (withTransfer (acknowledged true (s .transfer)) s)
-  unfolding acknowledged counterPut
-  pulse-made f =
-      let g : o ≡ s .transfer .offset - 1 = f ∙ ap (λ (l : List ℕ). getD l 17 0 - 1) put ∙ ap (λ (k : ℕ). k - 1) (offset-kept s (counterByte 0 (counted (s .transfer .counter))) (counterByte 1 (counted (s .transfer .counter))) (counterByte 2 (counted (s .transfer .counter)))) in
-      ap (λ (l : List ℕ). set l 17 o) put ∙ ap (set (counterPut (imageOf s) (counted (s .transfer .counter))) 17) g
-      ∙ acked-pulse s (counted (s .transfer .counter)) (s .transfer .offset - 1)
-
-  on-made : set m₁ ackPlace 1 ≡ imageOf (withTransfer (acknowledged false (s .transfer)) s)
-  unfolding acknowledged counterPut
-  on-made = ap (λ (l : List ℕ). set l 18 1) put ∙ acked-on s (counted (s .transfer .counter))
+  pub ack-on : m₁ ≡ imageOf (withAck true (counterCounted s)) → m₁ ≡ imageOf (withTransfer (acknowledged false (s .transfer)) s)
+  unfolding acknowledged
+  ack-on e = e
 
 -- the same of an image
 module _ (m : List ℕ) (i : IsImage m) where
@@ -160,30 +91,13 @@ module _ (m : List ℕ) (i : IsImage m) where
   pub byte-sent : (b n : ℕ) → n ≡ getD m scsiCountPlace 0 → b ≡ getD m scsiBytesPlace 0 → 0 < length ((stateAt m) .transfer .scsi) → set (set (shifted m) lastPlace b) scsiCountPlace (n - 1) ≡ imageOf (withTransfer (passed true [] ((stateAt m) .transfer)) (stateAt m))
   byte-sent b n u v h = sent-made (stateAt m) m b n (i .packed) (i .range) (u ∙ scsi-held m i) h v
 
-  pub byte-stored : (b n : ℕ) → n ≡ getD m scsiCountPlace 0 → length ((stateAt m) .transfer .scsi) < 8 → set (set m (scsiBytesPlace + n) b) scsiCountPlace (n + 1) ≡ imageOf (withTransfer (passed false (b ∷ []) ((stateAt m) .transfer)) (stateAt m))
-  byte-stored b n u = stored-made (stateAt m) m b n (i .packed) (i .range) (u ∙ scsi-held m i)
-
-  count-is : (n : ℕ) → n ≡ getD m counterLowPlace 0 + 256 * getD m counterMiddlePlace 0 + 65536 * getD m counterHighPlace 0 → n ≡ (stateAt m) .transfer .counter
-  count-is n e = e ∙ ap (λ (l : List ℕ). getD l 25 0 + 256 * getD l 26 0 + 65536 * getD l 27 0) (i .packed) ∙ counter-at (stateAt m) (i .range .transfer .counter)
-
-  pub count-low : getD m counterLowPlace 0 < 255 → set m counterLowPlace (getD m counterLowPlace 0 + 1) ≡ counterPut m (counted ((stateAt m) .transfer .counter))
-  count-low = low-made (stateAt m) m (i .packed) (i .range .transfer .counter)
-
-  pub count-whole : (n : ℕ) → n ≡ getD m counterLowPlace 0 + 256 * getD m counterMiddlePlace 0 + 65536 * getD m counterHighPlace 0 → counterPut m ((n % 16777216 + 1) % 16777216) ≡ counterPut m (counted ((stateAt m) .transfer .counter))
-  count-whole n u = ap (counterPut m) (whole-counts n ((stateAt m) .transfer .counter) (count-is n u))
-
-  pub ack-pulse : (m₁ : List ℕ) (o : ℕ) → m₁ ≡ counterPut m (counted ((stateAt m) .transfer .counter)) → o ≡ getD m₁ offsetPlace 0 - 1 → set m₁ offsetPlace o ≡ imageOf (withTransfer (acknowledged true ((stateAt m) .transfer)) (stateAt m))
-  ack-pulse m₁ o e f = pulse-made (stateAt m) m m₁ o (i .packed) e f
-
-  pub ack-on : (m₁ : List ℕ) → m₁ ≡ counterPut m (counted ((stateAt m) .transfer .counter)) → set m₁ ackPlace 1 ≡ imageOf (withTransfer (acknowledged false ((stateAt m) .transfer)) (stateAt m))
-  ack-on m₁ e = on-made (stateAt m) m m₁ 0 (i .packed) e
-
 -- inbound: nothing stored, or one byte
 pub pass-none : (o y : Bool) (b : ℕ) (t : Transfer) → o ≡ false → y ≡ true → passed o (cond y [] (b ∷ [])) t ≡ t
 pass-none o y b t p q = rw (p, q) (passed-none t)
 
-pub pass-stored : (o y : Bool) (b : ℕ) (t : Transfer) → o ≡ false → y ≡ false → passed o (cond y [] (b ∷ [])) t ≡ passed false (b ∷ []) t
-pass-stored o y b t p q = rw (p, q)
+pub pass-stored : (o y : Bool) (b : ℕ) (s : State) → o ≡ false → y ≡ false → passed o (cond y [] (b ∷ [])) (s .transfer) ≡ (withScsi (s .transfer .scsi ++ (b ∷ [])) s) .transfer
+unfolding passed
+pass-stored o y b s p q = rw (p, q)
 
 pub pass-sent : (o : Bool) (l : List ℕ) (t : Transfer) → o ≡ true → passed o l t ≡ passed true [] t
 unfolding passed

@@ -4,8 +4,6 @@ pub mod Going
 pub mod Handshakes
 pub mod Kept
 pub mod Looked
-pub mod Parts
-pub mod Places
 pub mod Runs
 pub mod ShakeParts
 pub mod Tests

@@ -3,12 +3,10 @@ use Prim.Native.Nat.{ℕ, zero, suc}
 use mathlib.Core.Path.{_≡_, refl, sym, ap, _∙_}
 use mathlib.Core.Bool.{Bool, true, false, not, _&&_, cond, Bool·beq}
 use lib.Bits.{or-zero-r}
-use Rattle.rules.specs.State.{State, Transfer}
+use Rattle.rules.specs.State.{State}
 use Rattle.rules.specs.Seen.{normal, connected, matched, path, driving, dataDriven, dataSeen}
 use Rattle.rules.specs.StepC.{Settling, conditions, canMove, move, canSynchronous, canAsynchronous, canHandshake, handshake, turn, settle}
 use Rattle.rules.specs.declared.chip.Conditions.{Conditions}
-use Rattle.rules.specs.declared.registers.Registers.{Registers}
-use Rattle.rules.specs.declared.records.Lines.{Lines}
 use Rattle.rules.proofs.Logic.{never, left-true, right-true}
 use Rattle.settling.specs.Looks.{withByte, lookedAt}
 
@@ -53,20 +51,24 @@ undriven true false d e = absurd (never e)
 undriven false i d e = refl
 
 -- inbound in the phase expected IO is seen, and nothing is driven
-module _ (r : Registers) (l : Lines) (t : Transfer) where
-  io-seen : path r ≡ true → matched r l ≡ true → r .dmacntrl0 .write ≡ false → l .io ≡ true
+module _ (s : State) where
+  io-seen : path (s .registers) ≡ true → matched s ≡ true → s .registers .dmacntrl0 .write ≡ false → s .lines .io ≡ true
   unfolding path matched
   io-seen p m w =
-      agree (l .io) (r .scsisig .ioexp) (differ (r .dmacntrl0 .write) (r .scsisig .ioexp) w (right-true (normal r) _ p))
-      (right-true (connected r l && Bool·beq (l .cd) (r .scsisig .cdexp)) _ (left-true _ (Bool·beq (l .msg) (r .scsisig .msgexp)) m))
+      let g = s .registers .scsisig in
+      agree (s .lines .io) (g .ioexp) (differ (s .registers .dmacntrl0 .write) (g .ioexp) w (right-true (normal (s .registers)) _ p))
+      (right-true (connected s && Bool·beq (s .lines .cd) (g .cdexp)) _ (left-true _ (Bool·beq (s .lines .msg) (g .msgexp)) m))
 
-  lines-seen : l .io ≡ true → l .byte ≡ dataSeen r l t
+  lines-seen : s .lines .io ≡ true → s .lines .byte ≡ dataSeen s
   unfolding driving dataDriven dataSeen
-  lines-seen e = rw (undriven _ (l .io) _ e) (sym (or-zero-r (l .byte)))
+  lines-seen e = rw (undriven _ (s .lines .io) _ e) (sym (or-zero-r (s .lines .byte)))
 
 pub looked-ends : (s : State) (n : ℕ) (x : Settling) → settle (lookedAt s) n x ≡ settle (conditions s) n x
 unfolding lookedAt conditions
 looked-ends s n x =
     settle-same (s .lines .byte) (conditions s)
-    (λ e o. lines-seen (s .registers) (s .lines) (s .transfer) (io-seen (s .registers) (s .lines) (s .transfer) (right-true (s .registers .sxfrctl0 .scsien) _ (left-true _ (matched s) e)) (right-true (s .registers .sxfrctl0 .scsien && path (s .registers)) (matched s) e) o))
+    (λ e o.
+    lines-seen s
+    (io-seen s (right-true (s .registers .sxfrctl0 .scsien) _ (left-true _ (matched s) e))
+    (right-true (s .registers .sxfrctl0 .scsien && path (s .registers)) (matched s) e) o))
     n x

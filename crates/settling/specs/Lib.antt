@@ -1,4 +1,3 @@
-pub mod Laid
 pub mod Looks
 pub mod Parts
 pub mod Settles

@@ -7,19 +7,18 @@ ghost use Rattle.image.specs.Image.{IsImage, stateAt};
 ghost use Rattle.settling.specs.Looks.{lookedAt, mayShake};
 ghost use Rattle.settling.specs.Settles.{Settles};
 use fifos::sent::Sent;
+use image::bits::automatic_ack;
+use image::bits::scsien;
+use image::bits::write;
 use image::bus::matched;
 use image::bus::path;
+use image::bus::req_seen;
 use image::bus::synchronous;
-use image::layout::ACK;
-use image::layout::DMACNTRL0;
 use image::layout::Image;
-use image::layout::LINES_CONTROL;
 use image::layout::LINES_DATA;
 use image::layout::OFFSET;
-use image::layout::SXFRCTL0;
 use rules::chip::Conditions;
 
-mod copies;
 mod moves;
 mod shakes;
 
@@ -35,11 +34,7 @@ fn enabled(m: &Image) -> bool
     ensures { λ r. ⌜ r ≡ (conditions (stateAt (now (m .entry)))) .enabled ⌝ }
 {
     if path(m) {
-        if (m[SXFRCTL0] >> 7) % 2 == 1 {
-            matched(m)
-        } else {
-            false
-        }
+        if scsien(m) { matched(m) } else { false }
     } else {
         false
     }
@@ -51,13 +46,15 @@ fn conditions_of(m: &Image) -> Conditions
 {
     let way = path(m);
     let able = enabled(m);
+    let out = write(m);
     let kind = synchronous(m);
+    let asked = req_seen(m);
     Conditions {
         path: way,
         enabled: able,
-        outbound: (m[DMACNTRL0] >> 3) % 2 == 1,
+        outbound: out,
         synchronous: kind,
-        req: (m[LINES_CONTROL] >> 1) % 2 == 1,
+        req: asked,
         byte: m[LINES_DATA],
     }
 }
@@ -69,8 +66,8 @@ fn possible(m: &Image) -> bool
     if synchronous(m) {
         0 < m[OFFSET]
     } else {
-        if (m[LINES_CONTROL] >> 1) % 2 == 1 {
-            !(m[ACK] == 1)
+        if req_seen(m) {
+            !automatic_ack(m)
         } else {
             false
         }

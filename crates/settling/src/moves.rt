@@ -7,6 +7,9 @@ ghost use Rattle.rules.specs.Changed.{withTransfer};
 ghost use Rattle.image.specs.Image.{IsImage, imageOf, stateAt};
 ghost use Rattle.settling.specs.Parts.{movable, carried};
 ghost use Rattle.settling.specs.Steps.{Moves};
+use datapath::copies::wide;
+use datapath::host::host_popped;
+use datapath::scsi::scsi_popped;
 use image::copies::copied;
 use image::layout::HOST_BYTES;
 use image::layout::HOST_COUNT;
@@ -22,12 +25,10 @@ fn carried_out(m: &mut Image, k: usize)
     requires { ⌜ length ((stateAt (now m)) .transfer .scsi) + k ≤ 8 ⌝ }
     ensures { λ _. ⌜ now (m .exit) ≡ imageOf (withTransfer (carried true k ((stateAt (now (m .entry))) .transfer)) (stateAt (now (m .entry)))) ⌝ }
 {
-    let held = crate::copies::wide(m[SCSI_COUNT]);
-    let n = crate::copies::wide(m[HOST_COUNT]);
+    let held = wide(m[SCSI_COUNT]);
     copied(m, HOST_BYTES, SCSI_BYTES + held, k);
-    crate::copies::moved_down(m, 68, n, k);
     m[SCSI_COUNT] = (held + k) as u8;
-    m[HOST_COUNT] = (n - k) as u8;
+    host_popped(m, k);
 }
 
 // k bytes from the SCSI FIFO behind those of the host FIFO.
@@ -37,12 +38,10 @@ fn carried_in(m: &mut Image, k: usize)
     requires { ⌜ length ((stateAt (now m)) .transfer .host) + k ≤ 128 ⌝ }
     ensures { λ _. ⌜ now (m .exit) ≡ imageOf (withTransfer (carried false k ((stateAt (now (m .entry))) .transfer)) (stateAt (now (m .entry)))) ⌝ }
 {
-    let n = crate::copies::wide(m[SCSI_COUNT]);
-    let held = crate::copies::wide(m[HOST_COUNT]);
+    let held = wide(m[HOST_COUNT]);
     copied(m, SCSI_BYTES, HOST_BYTES + held, k);
-    crate::copies::moved_down(m, 28, n, k);
-    m[SCSI_COUNT] = (n - k) as u8;
     m[HOST_COUNT] = (held + k) as u8;
+    scsi_popped(m, k);
 }
 
 fn smaller(a: usize, b: usize) -> usize
@@ -56,8 +55,8 @@ pub fn run_length(m: &Image, c: Conditions) -> usize
     requires { ⌜ IsImage (now m) ⌝ }
     ensures { λ r. ⌜ r ≡ movable c ((stateAt (now (m .entry))) .transfer) ⌝ }
 {
-    let scsi = crate::copies::wide(m[SCSI_COUNT]);
-    let host = crate::copies::wide(m[HOST_COUNT]);
+    let scsi = wide(m[SCSI_COUNT]);
+    let host = wide(m[HOST_COUNT]);
     if c.path {
         if c.outbound {
             if host == 0 {

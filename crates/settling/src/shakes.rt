@@ -1,23 +1,20 @@
 // One handshake: its byte, and its ACK.
 ghost use mathlib.Core.Path.{_≡_};
-ghost use mathlib.Core.Bool.{true, false};
-ghost use mathlib.Core.List.{[], _∷_};
-ghost use Prim.Native.Nat.{_+_, _*_, _-_, _<_, _≤_};
-ghost use lib.ListN.{length, set, getD};
-ghost use Rattle.rules.specs.Counter.{counterByte, counted};
+ghost use mathlib.Core.Bool.{true};
+ghost use mathlib.Core.List.{[]};
+ghost use Prim.Native.Nat.{_-_, _<_};
+ghost use lib.ListN.{length, getD};
 ghost use Rattle.rules.specs.StepC.{canSynchronous, canAsynchronous, canHandshake};
 ghost use Rattle.fifos.specs.Fifos.{SentTidy};
 ghost use Rattle.rules.specs.Changed.{withTransfer};
 ghost use Rattle.image.specs.Image.{IsImage, imageOf, stateAt};
-ghost use Rattle.settling.specs.Laid.{counterPut};
 ghost use Rattle.settling.specs.Parts.{passed, acknowledged};
 ghost use Rattle.settling.specs.Steps.{sentWith, byteOf, shakenOf};
-ghost use Rattle.image.specs.Layout.{counterHighPlace, counterLowPlace, counterMiddlePlace};
+use datapath::counts::acknowledged;
+use datapath::counts::counter_counted;
+use datapath::scsi::scsi_pushed;
 use fifos::sent::Sent;
-use image::layout::ACK;
-use image::layout::COUNTER_HIGH;
-use image::layout::COUNTER_LOW;
-use image::layout::COUNTER_MIDDLE;
+use image::bits::automatic_ack;
 use image::layout::Image;
 use image::layout::LAST;
 use image::layout::OFFSET;
@@ -43,7 +40,7 @@ fn can_asynchronous(m: &Image, c: Conditions) -> bool
     ensures { λ r. ⌜ r ≡ canAsynchronous c ((stateAt (now (m .entry))) .transfer) ⌝ }
 {
     let held = m[SCSI_COUNT];
-    let on = m[ACK] == 1;
+    let on = automatic_ack(m);
     if c.outbound {
         c.req & !on & (0 < held)
     } else {
@@ -70,28 +67,17 @@ fn byte_sent(m: &mut Image) -> u8
 {
     let n = m[SCSI_COUNT];
     let b = m[SCSI_BYTES];
-    m[SCSI_BYTES] = m[29];
-    m[29] = m[30];
-    m[30] = m[31];
-    m[31] = m[32];
-    m[32] = m[33];
-    m[33] = m[34];
-    m[34] = m[35];
-    m[35] = 0;
+    m[SCSI_BYTES] = m[SCSI_BYTES + 1];
+    m[SCSI_BYTES + 1] = m[SCSI_BYTES + 2];
+    m[SCSI_BYTES + 2] = m[SCSI_BYTES + 3];
+    m[SCSI_BYTES + 3] = m[SCSI_BYTES + 4];
+    m[SCSI_BYTES + 4] = m[SCSI_BYTES + 5];
+    m[SCSI_BYTES + 5] = m[SCSI_BYTES + 6];
+    m[SCSI_BYTES + 6] = m[SCSI_BYTES + 7];
+    m[SCSI_BYTES + 7] = 0;
     m[LAST] = b;
     m[SCSI_COUNT] = n - 1;
     b
-}
-
-// The byte seen is stored.
-fn byte_stored(m: &mut Image, b: u8)
-    requires { ⌜ IsImage (now m) ⌝ }
-    requires { ⌜ length ((stateAt (now m)) .transfer .scsi) < 8 ⌝ }
-    ensures { λ _. ⌜ now (m .exit) ≡ imageOf (withTransfer (passed false (b ∷ []) ((stateAt (now (m .entry))) .transfer)) (stateAt (now (m .entry)))) ⌝ }
-{
-    let n = crate::copies::wide(m[SCSI_COUNT]);
-    m[SCSI_BYTES + n] = b;
-    m[SCSI_COUNT] = (n + 1) as u8;
 }
 
 // The byte of a handshake; a synchronous inbound one is stored already.
@@ -109,45 +95,8 @@ fn byte_passed(m: &mut Image, c: Conditions, sent: Sent) -> Sent
     if c.synchronous {
         return sent;
     }
-    byte_stored(m, c.byte);
+    scsi_pushed(m, c.byte);
     sent
-}
-
-fn word(x: u8) -> u32
-    ensures { λ r. ⌜ (r ≡ x) × (r < 256) ⌝ }
-{
-    x as u32
-}
-
-fn counter_of(m: &Image) -> u32
-    ensures { λ r. ⌜ r ≡ getD (now (m .entry)) counterLowPlace 0 + 256 * getD (now (m .entry)) counterMiddlePlace 0 + 65536 * getD (now (m .entry)) counterHighPlace 0 ⌝ }
-{
-    let low = word(m[COUNTER_LOW]);
-    let middle = word(m[COUNTER_MIDDLE]);
-    let high = word(m[COUNTER_HIGH]);
-    low + 256 * middle + 65536 * high
-}
-
-fn counter_stored(m: &mut Image, n: u32)
-    ensures { λ _. ⌜ now (m .exit) ≡ set (set (set (now (m .entry)) counterLowPlace (counterByte 0 n)) counterMiddlePlace (counterByte 1 n)) counterHighPlace (counterByte 2 n) ⌝ }
-{
-    m[COUNTER_LOW] = (n % 256) as u8;
-    m[COUNTER_MIDDLE] = ((n / 256) % 256) as u8;
-    m[COUNTER_HIGH] = ((n / 65536) % 256) as u8;
-}
-
-// "Each ACK adds one to the counter, modulo 16,777,216"; most often the low byte alone changes.
-fn counted_in(m: &mut Image)
-    requires { ⌜ IsImage (now m) ⌝ }
-    ensures { λ _. ⌜ now (m .exit) ≡ counterPut (now (m .entry)) (counted ((stateAt (now (m .entry))) .transfer .counter)) ⌝ }
-{
-    let low = m[COUNTER_LOW];
-    if low < 255 {
-        m[COUNTER_LOW] = low + 1;
-    } else {
-        let n = counter_of(m);
-        counter_stored(m, (n % 16777216 + 1) % 16777216);
-    }
 }
 
 // The ACK of a handshake: a pulse that lowers the offset, or on.
@@ -155,12 +104,12 @@ fn ack_given(m: &mut Image, synchronous: bool)
     requires { ⌜ IsImage (now m) ⌝ }
     ensures { λ _. ⌜ now (m .exit) ≡ imageOf (withTransfer (acknowledged synchronous ((stateAt (now (m .entry))) .transfer)) (stateAt (now (m .entry)))) ⌝ }
 {
-    counted_in(m);
     if synchronous {
+        counter_counted(m);
         let offset = m[OFFSET];
         m[OFFSET] = less_one(offset);
     } else {
-        m[ACK] = 1;
+        acknowledged(m);
     }
 }
 

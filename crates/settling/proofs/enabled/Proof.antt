@@ -2,7 +2,6 @@ use mathlib.Core.Path.{_≡_, refl, sym, _∙_}
 use mathlib.Core.Bool.{Bool, true, false, _&&_, cond}
 use denote.Ref.{now}
 use borrow.Author.Needs.{needs}
-use borrow.Author.Tests.{eq-eqb, ne-eqb}
 use Rattle.rules.specs.State.{State}
 use Rattle.rules.specs.Seen.{matched, path}
 use Rattle.rules.specs.StepC.{conditions}
@@ -25,17 +24,17 @@ returns : tie.Need-returns
 unfolding stateAt
 returns c =
     let o = c .before .before .before in
-    by-tests (stateAt (now (o .before .before .args .m))) true true (c .matched .result) (sym (eq-eqb _ 1 (c .before .if2 .taken))) (sym (o .if1 .taken) ∙ o .before .path .ensures) (c .matched .ensures)
+    by-tests (stateAt (now (o .before .before .args .m))) true true (c .matched .result) (sym (c .before .if2 .taken) ∙ c .before .before .scsien .ensures) (sym (o .if1 .taken) ∙ o .before .path .ensures) (c .matched .ensures)
 
 returns-2 : tie.Need-returns-2
 unfolding stateAt
 returns-2 c =
     let o = c .before .before in
-    by-tests (stateAt (now (o .before .before .args .m))) false true _ (sym (ne-eqb _ 1 (c .if2 .left))) (sym (o .if1 .taken) ∙ o .before .path .ensures) refl
+    by-tests (stateAt (now (o .before .before .args .m))) false true _ (sym (c .if2 .left) ∙ c .before .scsien .ensures) (sym (o .if1 .taken) ∙ o .before .path .ensures) refl
 
 returns-3 : tie.Need-returns-3
 unfolding stateAt
 returns-3 c = by-tests (stateAt (now (c .before .before .args .m))) _ false _ refl (sym (c .if1 .left) ∙ c .before .path .ensures) refl
 
 pub enabled-spec : {M : Type 1} → statement M
-enabled-spec = tie.close (tie.spec (λ c κs. search needs) (λ c. search needs) (λ c κs. search needs) returns returns-2 returns-3)
+enabled-spec = tie.close (tie.spec (λ c κs. search needs) (λ c κs. search needs) (λ c κs. search needs) returns returns-2 returns-3)

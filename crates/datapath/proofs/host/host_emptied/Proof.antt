@@ -5,23 +5,19 @@ use native.Mathlib.Omega.{arith}
 use borrow.Author.Needs.{needs}
 use Rattle.image.specs.Image.{imageOf, stateAt}
 use Rattle.rules.specs.Changed.{withHost}
-use Rattle.datapath.proofs.Fronts.{none-left, count-fits, placed-at}
+use Rattle.datapath.proofs.Fronts.{none-left, placed-at}
 use Rattle.datapath.proofs.host.host_emptied.Statement.{statement}
 use Rattle.datapath.proofs.host.host_emptied.Tie as tie
 
-cast-n : tie.Need-cast-n
-cast-n c =
-    let a = c .before in
-    record { fits = omega (arith, count-fits (placed-at (a .args .m .now) (a .pre)) (a .pre .packed)) }
-
 host-popped-requires : tie.Need-host-popped-requires
-host-popped-requires c κs = (c .before .before .pre, omega arith)
+host-popped-requires c κs = (c .before .before .before .pre, omega (arith, c .before .wide .ensures))
 
 returns : tie.Need-returns
 returns c =
-    let a = c .before .before .before in
+    let w = c .before .before in
+    let a = w .before .before in
     let m = a .args .m .now in
-    c .host-popped .ensures ∙ ap (λ (l : List ℕ). imageOf (withHost l (stateAt m))) (none-left (placed-at m (a .pre)) (a .pre .packed))
+    c .host-popped .ensures ∙ ap (λ (l : List ℕ). imageOf (withHost l (stateAt m))) (none-left (placed-at m (a .pre)) (a .pre .packed) (w .wide .result) (w .wide .ensures))
 
 pub host-emptied-spec : {M : Type 1} → statement M
-host-emptied-spec = tie.close (tie.spec (λ c. search needs) cast-n host-popped-requires returns)
+host-emptied-spec = tie.close (tie.spec (λ c. search needs) (λ c κs. search needs) host-popped-requires returns)

@@ -1,63 +1,41 @@
-use Prim.Native.Nat.{_-_}
+use mathlib.Core.Path.{_≡_, _∙_}
 use native.Mathlib.Omega.{arith}
-use lib.ListN.{getD}
+use lib.ListN.{length}
 use borrow.Author.Needs.{needs}
-use Rattle.datapath.proofs.Fronts.{popped, moved-length, image-length, count-fits, placed-at}
-use Rattle.image.specs.Layout.{hostCountPlace}
+use Rattle.image.specs.Image.{stateAt}
+use Rattle.datapath.proofs.Fronts.{image-length, placed-at, counted}
+use Rattle.datapath.proofs.Ends.{host-off}
 use Rattle.datapath.proofs.host.host_popped.Statement.{statement}
 use Rattle.datapath.proofs.host.host_popped.Tie as tie
 
-zeroed-requires : tie.Need-zeroed-requires
-zeroed-requires c κs =
-    let a = c .before .before .before .before in
-    let m = a .args .m .now in
-    let p = placed-at m (a .pre .0) in
-    let h = count-fits p (a .pre .0 .packed) in
-    (moved-length m 68 (a .args .k) (getD m hostCountPlace 0 - a .args .k) (c .before .copied .ensures) (image-length p (a .pre .0 .packed)) (omega (arith, a .pre .1, h)), omega (arith, a .pre .1, h))
+held : (c : tie.After-wide) → c .wide .result ≡ length ((stateAt (c .before .before .args .m .now)) .transfer .host)
+held c =
+    let a = c .before .before in
+    let p = placed-at (a .args .m .now) (a .pre .0) in
+    c .wide .ensures ∙ counted p (a .pre .0 .packed)
 
-cast-n : tie.Need-cast-n
-cast-n c =
-    let a = c .before in
-    record { fits = omega (arith, count-fits (placed-at (a .args .m .now) (a .pre .0)) (a .pre .0 .packed)) }
+moved-down-requires : tie.Need-moved-down-requires
+moved-down-requires c κs =
+    let a = c .before .before .before in
+    let p = placed-at (a .args .m .now) (a .pre .0) in
+    (image-length p (a .pre .0 .packed), (omega (arith, held (c .before), p .host), omega (arith, c .before .wide .ensures, a .pre .1)))
 
-add-zeroed : tie.Need-add-zeroed
-add-zeroed c =
-    let a = c .before .before .before .before in
-    record { fits = omega (arith, count-fits (placed-at (a .args .m .now) (a .pre .0)) (a .pre .0 .packed)) }
+sub-m : tie.Need-sub-m
+sub-m c = omega (arith, c .before .before .wide .ensures, c .before .before .before .before .pre .1)
 
 cast-m : tie.Need-cast-m
 cast-m c =
-    let a = c .before .before .before .before .before in
-    record { fits = omega (arith, count-fits (placed-at (a .args .m .now) (a .pre .0)) (a .pre .0 .packed)) }
-
-add-copied : tie.Need-add-copied
-add-copied c =
-    let a = c .before .before in
-    record { fits = omega (arith, a .pre .1, count-fits (placed-at (a .args .m .now) (a .pre .0)) (a .pre .0 .packed)) }
-
-copied-requires : tie.Need-copied-requires
-copied-requires c κs =
-    let a = c .before .before in
-    let p = placed-at (a .args .m .now) (a .pre .0) in
-    let h = count-fits p (a .pre .0 .packed) in
-    (image-length p (a .pre .0 .packed), (omega (arith, a .pre .1, h), (omega (arith, a .pre .1, h), (λ l. omega (arith, l)))))
+    let a = c .before .before .before .before in
+    omega (arith, held (c .before .before), placed-at (a .args .m .now) (a .pre .0) .host)
 
 returns : tie.Need-returns
 returns c =
-    let a = c .before .before .before .before .before in
-    popped (placed-at (a .args .m .now) (a .pre .0)) (a .pre .0 .packed) (a .args .k) (a .pre .1) (c .before .before .copied .ensures) (c .zeroed .ensures)
+    let w = c .before .before in
+    let a = w .before .before in
+    let m = a .args .m .now in
+    host-off (stateAt m) (a .pre .0 .packed) (placed-at m (a .pre .0)) (w .wide .result) (a .args .k) (held w) (omega (arith, held w, w .wide .ensures, a .pre .1)) (c .moved-down .ensures)
 
 pub host-popped-spec : {M : Type 1} → statement M
 host-popped-spec =
     tie.close
-    (tie.spec
-    (λ c. search needs)
-    cast-n
-    (λ c. search needs)
-    add-copied
-    copied-requires
-    add-zeroed
-    zeroed-requires
-    cast-m
-    (λ c. search needs)
-    returns)
+    (tie.spec (λ c. search needs) (λ c κs. search needs) moved-down-requires sub-m cast-m (λ c. search needs) returns)

@@ -9,24 +9,25 @@ use Rattle.image.specs.Image.{imageOf, stateAt}
 use Rattle.rules.specs.Changed.{withHost}
 use Rattle.image.specs.Layout.{hostBytesPlace, hostCountPlace}
 use Rattle.datapath.specs.Ready.{Placed}
-use Rattle.datapath.proofs.Fronts.{counted, pushed, with-host, placed-at}
+use Rattle.datapath.proofs.Fronts.{counted, with-host, placed-at}
+use Rattle.datapath.proofs.Ends.{host-one-more}
 use Rattle.datapath.proofs.host.word_pushed.Statement.{statement}
 use Rattle.datapath.proofs.host.word_pushed.Tie as tie
 
 -- after the first byte of two
 module _ {m : List ℕ} {s : State} (p : Placed s) (e : m ≡ imageOf s) (b : ℕ) (h : getD m hostCountPlace 0 < 127) {a : List ℕ} (f : a ≡ set (set m (hostBytesPlace + getD m hostCountPlace 0) b) hostCountPlace (getD m hostCountPlace 0 + 1)) where
   low-first : a ≡ imageOf (withHost (s .transfer .host ++ (b ∷ [])) s)
-  low-first = f ∙ pushed p e b (omega arith)
+  low-first = f ∙ host-one-more s e p b (omega arith)
 
   low-placed : Placed (withHost (s .transfer .host ++ (b ∷ [])) s)
   low-placed =
       let n : getD m hostCountPlace 0 ≡ length (s .transfer .host) = counted p e in
       with-host s (s .transfer .host ++ (b ∷ [])) p (simp length-append (omega arith))
 
-  room-left : getD a 24 0 < 128
+  room-left : getD a hostCountPlace 0 < 128
   room-left =
       let n : getD m hostCountPlace 0 ≡ length (s .transfer .host) = counted p e in
-      let k : getD a 24 0 ≡ length (s .transfer .host) + 1 = counted low-placed low-first ∙ length-append (s .transfer .host) (b ∷ []) in
+      let k : getD a hostCountPlace 0 ≡ length (s .transfer .host) + 1 = counted low-placed low-first ∙ length-append (s .transfer .host) (b ∷ []) in
       omega arith
 
 push-requires : tie.Need-push-requires
@@ -47,7 +48,7 @@ returns c =
     let h = a .pre .1 in
     let f = c .before .before .push .ensures in
     c .push2 .ensures
-    ∙ pushed (low-placed p e (w % 256) h f) (low-first p e (w % 256) h f) (w / 256) (room-left p e (w % 256) h f)
+    ∙ host-one-more (withHost (s .transfer .host ++ (w % 256 ∷ [])) s) (low-first p e (w % 256) h f) (low-placed p e (w % 256) h f) (w / 256) (room-left p e (w % 256) h f)
     ∙ ap (λ (l : List ℕ). imageOf (withHost l s)) (append-assoc (s .transfer .host) (w % 256 ∷ []) (w / 256 ∷ []))
 
 pub word-pushed-spec : {M : Type 1} → statement M

@@ -11,19 +11,20 @@ use Rattle.settling.proofs.shakes.ack_given.Tie as tie
 
 returns : tie.Need-returns
 returns c =
-    let k = c .before .before .before in
-    let a = k .before .before in
-    ack-pulse (now (a .args .m)) (a .pre) (k .counted-in .last .0) (c .less-one .result) (k .counted-in .ensures) (c .less-one .ensures)
-    ∙ ap (λ (y : Bool). imageOf (withTransfer (acknowledged y ((stateAt (now (a .args .m))) .transfer)) (stateAt (now (a .args .m))))) (sym (c .before .before .if1 .taken))
+    let k = c .before .before in
+    let a = k .before .before .before in
+    let s = stateAt (now (a .args .m)) in
+    ack-pulse s (k .counter-counted .last .0) (c .less-one .result) (k .counter-counted .ensures) (c .less-one .ensures)
+    ∙ ap (λ (y : Bool). imageOf (withTransfer (acknowledged y (s .transfer)) s)) (sym (k .before .before .if1 .taken))
 
 returns-2 : tie.Need-returns-2
 returns-2 c =
-    let k = c .before in
-    let a = k .before .before in
-    ack-on (now (a .args .m)) (a .pre) (k .counted-in .last .0) (k .counted-in .ensures)
-    ∙ ap (λ (y : Bool). imageOf (withTransfer (acknowledged y ((stateAt (now (a .args .m))) .transfer)) (stateAt (now (a .args .m))))) (sym (c .if1 .left))
+    let a = c .before .before .before in
+    let s = stateAt (now (a .args .m)) in
+    ack-on s (c .acknowledged .last .0) (c .acknowledged .ensures)
+    ∙ ap (λ (y : Bool). imageOf (withTransfer (acknowledged y (s .transfer)) s)) (sym (c .before .before .if1 .left))
 
 pub ack-given-spec : {M : Type 1} → statement M
 ack-given-spec =
     tie.close
-    (tie.spec (λ c κs. search needs) (λ c. search needs) (λ c κs. search needs) (λ c. search needs) (λ c. search needs) returns returns-2)
+    (tie.spec (λ c κs. search needs) (λ c. search needs) (λ c κs. search needs) (λ c. search needs) (λ c κs. search needs) returns returns-2)

@@ -3,6 +3,7 @@ use mathlib.Core.Path.{sym, ap, _∙_}
 use mathlib.Core.Bool.{Bool, cond}
 use mathlib.Core.List.{List, [], _∷_, _++_}
 use lib.ListN.{take}
+use native.Mathlib.Omega.{arith}
 use denote.Ref.{now}
 use borrow.Author.Needs.{needs}
 use Rattle.rules.specs.State.{Transfer}
@@ -12,6 +13,7 @@ use Rattle.laws.proofs.Lists.{take-one}
 use Rattle.fifos.specs.Fifos.{sentView, sentOf}
 use Rattle.rules.specs.Changed.{withTransfer}
 use Rattle.image.specs.Image.{imageOf, stateAt}
+use Rattle.settling.proofs.Carries.{scsi-held}
 use Rattle.settling.proofs.Handshakes.{pass-none, pass-stored, pass-sent}
 use Rattle.settling.proofs.shakes.byte_passed.Statement.{statement}
 use Rattle.settling.proofs.shakes.byte_passed.Tie as tie
@@ -44,10 +46,11 @@ returns-2 c =
           ∙ ap (λ (x : Transfer). imageOf (withTransfer x (stateAt (now (a .args .m))))) (sym (pass-none (a .args .c .outbound) (a .args .c .synchronous) (a .args .c .byte) t (c .before .if1 .left) (c .if2 .taken))),
     )
 
-byte-stored-requires : tie.Need-byte-stored-requires
-byte-stored-requires c κs =
+scsi-pushed-requires : tie.Need-scsi-pushed-requires
+scsi-pushed-requires c κs =
     let a = c .before .before .before in
-    (a .pre .0, handshake-inbound (a .args .c) ((stateAt (now (a .args .m))) .transfer) (c .before .before .if1 .left) (c .before .if2 .left) (a .pre .1 .0))
+    let m = now (a .args .m) in
+    (a .pre .0, omega (arith, scsi-held m (a .pre .0), handshake-inbound (a .args .c) ((stateAt m) .transfer) (c .before .before .if1 .left) (c .before .if2 .left) (a .pre .1 .0)))
 
 returns-3 : tie.Need-returns-3
 returns-3 c =
@@ -56,10 +59,10 @@ returns-3 c =
     let t = (stateAt (now (a .args .m))) .transfer in
     let v = sentView (a .args .sent) in (
       a .pre .1 .1 .0 ∙ ap (λ (y : Bool). sentOf (cond y (v ++ take 1 (t .scsi)) v)) (sym o),
-      c .byte-stored .ensures
-          ∙ ap (λ (x : Transfer). imageOf (withTransfer x (stateAt (now (a .args .m))))) (sym (pass-stored (a .args .c .outbound) (a .args .c .synchronous) (a .args .c .byte) t o (c .before .before .if2 .left))),
+      c .scsi-pushed .ensures
+          ∙ ap (λ (x : Transfer). imageOf (withTransfer x (stateAt (now (a .args .m))))) (sym (pass-stored (a .args .c .outbound) (a .args .c .synchronous) (a .args .c .byte) (stateAt (now (a .args .m))) o (c .before .before .if2 .left))),
     )
 
 pub byte-passed-spec : {M : Type 1} → statement M
 byte-passed-spec =
-    tie.close (tie.spec byte-sent-requires (λ c κs. search needs) returns returns-2 byte-stored-requires returns-3)
+    tie.close (tie.spec byte-sent-requires (λ c κs. search needs) returns returns-2 scsi-pushed-requires returns-3)

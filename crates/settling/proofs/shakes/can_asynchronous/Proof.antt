@@ -4,7 +4,6 @@ use borrow.Author.Needs.{needs}
 use Rattle.image.specs.Image.{stateAt}
 use Rattle.settling.proofs.Tests.{asynchronous-by}
 use Rattle.settling.proofs.Carries.{scsi-held}
-use Rattle.settling.proofs.Kept.{ack-held}
 use Rattle.settling.proofs.shakes.can_asynchronous.Statement.{statement}
 use Rattle.settling.proofs.shakes.can_asynchronous.Tie as tie
 
@@ -12,7 +11,6 @@ returns : tie.Need-returns
 returns c =
     let a = c .before .before .before .before in
     let q = scsi-held (now (a .args .m)) (a .pre) in
-    let o = ack-held (now (a .args .m)) (a .pre) in
     let e = asynchronous-by (a .args .c) ((stateAt (now (a .args .m))) .transfer) true (c .before .if1 .taken) in
     cc
 
@@ -20,9 +18,8 @@ returns-2 : tie.Need-returns-2
 returns-2 c =
     let a = c .before .before .before .before in
     let q = scsi-held (now (a .args .m)) (a .pre) in
-    let o = ack-held (now (a .args .m)) (a .pre) in
     let e = asynchronous-by (a .args .c) ((stateAt (now (a .args .m))) .transfer) false (c .before .if1 .left) in
     cc
 
 pub can-asynchronous-spec : {M : Type 1} → statement M
-can-asynchronous-spec = tie.close (tie.spec (λ c. search needs) (λ c. search needs) returns returns-2)
+can-asynchronous-spec = tie.close (tie.spec (λ c. search needs) (λ c κs. search needs) returns returns-2)

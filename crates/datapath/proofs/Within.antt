@@ -1,12 +1,12 @@
 -- Bytes put behind a list, and taken off its front, in the middle of a longer one.
-use Prim.Native.Nat.{ℕ, _+_, _-_, _<_, _≤_}
-use mathlib.Core.Path.{_≡_, refl, sym, ap, _∙_}
-use mathlib.Core.List.{List, [], _++_, append-assoc}
+use Prim.Native.Nat.{ℕ, _+_, _-_, _≤_}
+use mathlib.Core.Path.{_≡_, sym, ap, _∙_}
+use mathlib.Core.List.{List, _++_, append-assoc}
 use native.Mathlib.Omega.{arith}
-use lib.ListN.{length, take, drop, replicate, length-append, length-take, length-drop, length-replicate, take-append-drop, replicate-append-replicate}
+use lib.ListN.{length, take, drop, replicate, length-append, length-drop, length-replicate, take-append-drop, replicate-append-replicate}
 use lib.Seq.{paste, take-at, drop-at, take-all, drop-drop, length-take-le}
 use Rattle.rules.specs.Numbers.{padded}
-use Rattle.settling.specs.Laid.{lowered}
+use Rattle.datapath.specs.Laid.{lowered}
 
 -- what stands where the bytes go is as long as they are
 put-at : (p z r s : List ℕ) (at n : ℕ) → at ≡ length p → n ≡ length z → paste (p ++ (z ++ r)) at s n ≡ p ++ take n s ++ r

@@ -2,7 +2,7 @@
 ghost use mathlib.Core.Path.{_≡_};
 ghost use Prim.Native.Nat.{_+_, _≤_};
 ghost use lib.ListN.{length};
-ghost use Rattle.settling.specs.Laid.{lowered};
+ghost use Rattle.datapath.specs.Laid.{lowered};
 ghost use Rattle.image.specs.Layout.{imageSize};
 use image::copies::copied;
 use image::copies::zeroed;

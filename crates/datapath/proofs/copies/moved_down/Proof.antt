@@ -7,10 +7,10 @@ use lib.ListN.{drop, replicate, length-drop}
 use lib.Seq.{paste}
 use denote.Ref.{now}
 use borrow.Author.Needs.{needs}
-use Rattle.settling.specs.Laid.{lowered}
-use Rattle.settling.proofs.Carries.{pasted-long}
-use Rattle.settling.proofs.copies.moved_down.Statement.{statement}
-use Rattle.settling.proofs.copies.moved_down.Tie as tie
+use Rattle.datapath.specs.Laid.{lowered}
+use Rattle.datapath.proofs.Places.{pasted-long}
+use Rattle.datapath.proofs.copies.moved_down.Statement.{statement}
+use Rattle.datapath.proofs.copies.moved_down.Tie as tie
 
 zeroed-requires : tie.Need-zeroed-requires
 zeroed-requires c κs =
