@@ -14,6 +14,7 @@ use datapath::counts::acknowledged;
 use image::bus::automatic;
 use image::bus::data_seen;
 use image::bus::matched;
+use image::bus::req_seen;
 use image::layout::Image;
 use image::layout::LINES_CONTROL;
 use image::layout::STATUS;
@@ -26,7 +27,7 @@ fn automatic_ack(m: &Image, accessed: bool) -> bool
     ensures { λ b. ⌜ b ≡ (accessed && automatic (registersAt (now (m .entry))) && matched (stateAt (now (m .entry))) && reqSeen (stateAt (now (m .entry)))) ⌝ }
 {
     if accessed {
-        automatic(m) & matched(m) & ((m[LINES_CONTROL] >> 1) % 2 == 1)
+        automatic(m) & matched(m) & req_seen(m)
     } else {
         false
     }
