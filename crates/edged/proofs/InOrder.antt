@@ -9,12 +9,15 @@ use Rattle.rules.specs.State.{State}
 use Rattle.rules.specs.Seen.{rstSeen, reqSeen, ioSeen, bsySeen, selSeen, mismatched, dataSeen}
 use Rattle.rules.specs.StepB.{reqFalls, ackReleased, afterReqFalls, rstRises, busReset, afterRstRises, reqRises, parityBad, attention, synchronousReq, beyondLimit, beyond, countedReq, lateByte, storedByte, reqRisen, afterReqRises, quietAfter, busFree, busFreed, afterQuietTicks, phaseChanges, phaseChanged, afterPhaseChanges, inOrder}
 use Rattle.rules.specs.Changed.{withStatus, withQuiet}
+use Rattle.image.specs.Image.{stateAt}
 use Rattle.rules.specs.declared.chip.Status.{Status}
 use Rattle.rules.proofs.InOrder.{falls-keeps}
 use Rattle.rules.proofs.Logic.{never, left-true, right-true, cond-case}
 use Rattle.edged.specs.Parts.{registersB, transferB, statusB}
 use Rattle.edged.specs.From.{rstRisesFrom, reqRisesFrom, synchronousReqFrom, quietFrom, edgesFrom, appliedFrom}
+use Rattle.edged.specs.Since.{lastOf, beyondSince, rstOf, reqOf, mismatchedOf}
 use Rattle.edged.specs.declared.edges.Edges.{Edges}
+use Rattle.edged.specs.declared.last.Seen.{Seen}
 
 -- REQ does not rise where it falls, nor where RST is seen
 rises-not-falls : (now was : Bool) (x : Bool) → (now && not was && x) ≡ true → (was && not now) ≡ false
@@ -258,3 +261,21 @@ module _ (last : State) (ticks : ℕ) (now : State) where
       by true u p q = rw (reset-two last now p, edges-reset p) (none last (busReset now) (reset-no-req last now p))
       by false true p q = rw (unreset-two last now p ∙ unfallen last now q, edges-risen p q) (some last now q)
       by false false p q = rw (unreset-two last now p, edges-other p q) (none last (afterReqFalls last now) (unrisen last now q))
+
+-- B since the bytes that were seen
+module _ (x : Seen) (ticks : ℕ) (now : State) where
+  pub since : appliedFrom (edgesFrom (rstOf x) (reqOf x) now ticks) (mismatchedOf x) now ≡ inOrder (lastOf x) ticks now
+  unfolding rstOf reqOf mismatchedOf stateAt
+  since = sym (in-order (lastOf x) ticks now)
+
+  pub beyond-since : (edgesFrom (rstOf x) (reqOf x) now ticks) .beyond ≡ beyondSince x now
+  unfolding beyondSince rstOf reqOf stateAt
+  beyond-since = sym (beyond-in-order (lastOf x) ticks now)
+
+  -- is B since any state that has them
+  module _ (s : State) (p : rstOf x ≡ rstSeen (s .registers) (s .lines)) (q : reqOf x ≡ reqSeen (s .registers) (s .lines)) where
+    pub as-seen : mismatchedOf x ≡ mismatched (s .registers) (s .lines) → inOrder (lastOf x) ticks now ≡ inOrder s ticks now
+    as-seen r = sym since ∙ (λ i. appliedFrom (edgesFrom (p i) (q i) now ticks) (r i) now) ∙ sym (in-order s ticks now)
+
+    pub beyond-as-seen : beyondSince x now ≡ beyond s (afterRstRises s (afterReqFalls s now))
+    beyond-as-seen = sym beyond-since ∙ (λ i. (edgesFrom (p i) (q i) now ticks) .beyond) ∙ sym (beyond-in-order s ticks now)
