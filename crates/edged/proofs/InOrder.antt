@@ -56,12 +56,12 @@ module _ (last now : State) where
   reset-two : rstRises last now ≡ true → afterRstRises last (afterReqFalls last now) ≡ busReset now
   unfolding afterReqFalls afterRstRises ackReleased busReset rstRises
   reset-two r =
-      cond-case (λ n. afterRstRises last n ≡ busReset now) (reqFalls last now) (ackReleased now) now (λ f. rw r) (λ f. rw r)
+      falls-keeps (λ n. afterRstRises last n ≡ busReset now) last now (rw r) (λ h. rw r)
 
   unreset-two : rstRises last now ≡ false → afterRstRises last (afterReqFalls last now) ≡ afterReqFalls last now
   unfolding afterReqFalls ackReleased rstRises
   unreset-two r =
-      cond-case (λ n. afterRstRises last n ≡ n) (reqFalls last now) (ackReleased now) now (λ f. calm (ackReleased now) r) (λ f. calm now r)
+      falls-keeps (λ n. afterRstRises last n ≡ n) last now (calm now r) (λ h. calm (ackReleased now) r)
 
   unfallen : reqRises last now ≡ true → afterReqFalls last now ≡ now
   unfolding afterReqFalls
@@ -73,7 +73,7 @@ module _ (last now : State) where
 
   unrisen : reqRises last now ≡ false → reqRises last (afterReqFalls last now) ≡ false
   unfolding afterReqFalls ackReleased reqRises
-  unrisen u = cond-case (λ n. reqRises last n ≡ false) (reqFalls last now) (ackReleased now) now (λ f. u) (λ f. u)
+  unrisen u = falls-keeps (λ n. reqRises last n ≡ false) last now u (λ h. h)
 
 -- the last two steps of a state, where it is known whether the bus becomes free
 abbrev phased : Bool → Status → Status
@@ -206,11 +206,11 @@ module _ (last : State) (ticks : ℕ) (now : State) where
   -- nor do the quiet ticks look at the automatic ACK
   quiet-fallen : quietAfter ticks (afterReqFalls last now) ≡ quietAfter ticks now
   unfolding ackReleased quietAfter
-  quiet-fallen = falls-keeps (λ n. quietAfter ticks n ≡ quietAfter ticks now) last (λ n h. h) now refl
+  quiet-fallen = falls-keeps (λ n. quietAfter ticks n ≡ quietAfter ticks now) last now refl (λ h. h)
 
   free-fallen : busFree ticks (afterReqFalls last now) ≡ busFree ticks now
   unfolding ackReleased busFree quietAfter
-  free-fallen = falls-keeps (λ n. busFree ticks n ≡ busFree ticks now) last (λ n h. h) now refl
+  free-fallen = falls-keeps (λ n. busFree ticks n ≡ busFree ticks now) last now refl (λ h. h)
 
   abbrev Ordered : Type 0
   Ordered = inOrder last ticks now ≡ appliedFrom (edgesFrom rst req now ticks) was now

@@ -13,7 +13,7 @@ use Rattle.rules.specs.Interrupts.{instat, irq}
 use Rattle.rules.specs.Events.{offered, asked, portWrite, portRead, wide, writes}
 use Rattle.rules.specs.Codes.{noRoom, accessCode}
 use Rattle.rules.specs.StepA.{clrch, clrstcnt, rstfifo, hostA, counterA, transferA, registersA, afterA}
-use Rattle.rules.specs.StepB.{ackReleased, afterReqFalls, rstRises, busReset, afterRstRises, reqRises, reqRisen, busFreed, phaseChanged, afterB, atReq}
+use Rattle.rules.specs.StepB.{rstRises, busReset, reqRises, afterB, atReq}
 use Rattle.rules.specs.StepC.{Settling, conditions, canMove, move, canHandshake, handshake, settle, turns, started, settledC}
 use Rattle.rules.specs.StepD.{finished, afterD}
 use Rattle.rules.specs.Answers.{answerOf}
@@ -26,7 +26,7 @@ use Rattle.rules.specs.declared.records.Lines.{Lines}
 use Rattle.rules.specs.declared.records.Event.{Event}
 use Rattle.rules.specs.declared.records.Event.the-variants.{WordWrite, Drive}
 use Rattle.rules.proofs.Computes.{computes}
-use Rattle.rules.proofs.InOrder.{Keeps, falls-keeps, last-keeps, ioexp-keeps, Apart, apartOf, b-leaves, req-leaves, scsi-b}
+use Rattle.rules.proofs.InOrder.{reset-leaves, ioexp-off, Apart, apartOf, b-leaves, req-leaves, scsi-b}
 use Rattle.rules.proofs.Logic.{never, left-true, right-true, cond-case}
 use Rattle.rules.proofs.Refusals.{done-passed}
 use Rattle.rules.proofs.Settling.{settle-keeps}
@@ -155,15 +155,9 @@ module _ (s : State) (e : Event) (rises : rstRises s (afterA s e) ≡ true) wher
   stores-none = scsi-b s e ∙ rw (rst-at-req, and-false) (append-nil ((afterA s e) .transfer .scsi))
 
   -- 343h is 0 after the reset, and IOEXP with it
-  reset-at-req : (atReq s e) .registers .scsisig .ioexp ≡ false
-  unfolding atReq afterRstRises ackReleased busReset rstRises
-  reset-at-req = rw (still-rises ∙ rises)
-    where
-      still-rises : rstRises s (afterReqFalls s (afterA s e)) ≡ rstRises s (afterA s e)
-      still-rises = falls-keeps (λ n. rstRises s n ≡ rstRises s (afterA s e)) s (λ n h. h) (afterA s e) refl
-
   ioexp-after-b : (afterB s e) .registers .scsisig .ioexp ≡ false
-  ioexp-after-b = last-keeps (λ n. n .registers .scsisig .ioexp ≡ false) ioexp-keeps s e reset-at-req
+  unfolding busReset
+  ioexp-after-b = reset-leaves (λ n. n .registers .scsisig .ioexp ≡ false) ioexp-off s e (λ n. refl) rises
 
   host-same : (afterB s e) .transfer .host ≡ (afterA s e) .transfer .host
   host-same = ap (λ (a : Apart). a .host) (b-leaves s e)
