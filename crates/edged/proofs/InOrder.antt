@@ -12,7 +12,7 @@ use Rattle.rules.specs.Changed.{withStatus, withQuiet}
 use Rattle.image.specs.Image.{stateAt}
 use Rattle.rules.specs.declared.chip.Status.{Status}
 use Rattle.rules.proofs.InOrder.{falls-keeps}
-use Rattle.rules.proofs.Logic.{never, left-true, right-true, cond-case}
+use Rattle.rules.proofs.Logic.{never, left-true}
 use Rattle.edged.specs.Parts.{registersB, transferB, statusB}
 use Rattle.edged.specs.From.{rstRisesFrom, reqRisesFrom, synchronousReqFrom, quietFrom, edgesFrom, appliedFrom}
 use Rattle.edged.specs.Since.{lastOf, beyondSince, rstOf, reqOf, mismatchedOf}

@@ -6,10 +6,9 @@ use mathlib.Core.List.{List}
 use native.Mathlib.Omega.{arith}
 use lib.Dec.{eqb, leb}
 use lib.ListN.{getD, set}
-use borrow.Author.Tests.{eqb-true, leb-true, leb-false, lt-leb}
+use borrow.Author.Tests.{eqb-true, leb-false, lt-leb}
 use Rattle.rules.specs.State.{State}
-use Rattle.rules.specs.Seen.{rstSeen, selSeen, bsySeen, reqSeen, connected, matched, mismatched, path, synchronous}
-use Rattle.rules.specs.StepB.{parityBad, beyondLimit, lateByte}
+use Rattle.rules.specs.Seen.{rstSeen, selSeen, bsySeen, reqSeen, connected, matched, mismatched}
 use Rattle.edged.specs.Parts.{registersB, transferB, statusB}
 use Rattle.edged.specs.declared.edges.Edges.{Edges}
 use Rattle.rules.proofs.Logic.{left-true, right-true}

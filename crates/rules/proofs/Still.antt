@@ -8,7 +8,6 @@ use lib.Dec.{ltb, leb}
 use lib.ListN.{length}
 use borrow.Author.Tests.{le-ltb}
 use Rattle.rules.specs.State.{State, powerReset}
-use Rattle.rules.specs.Changed.{withQuiet}
 use Rattle.rules.specs.Seen.{ioSeen, reqSeen, rstSeen, bsySeen, selSeen, ackSeen, connected, mismatched, parityEven}
 use Rattle.rules.specs.Records.{wellFormed, fieldsOf, decode}
 use Rattle.rules.specs.Events.{writes, reads, valueOf, ticksOf, linesAfter, offered, asked, portWrite, portRead}

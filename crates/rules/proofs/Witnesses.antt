@@ -1,6 +1,6 @@
 -- Concrete cases that meet the hypotheses of the theorems here, computed.
 use mathlib.Core.Path.{_≡_, refl}
-use mathlib.Core.Bool.{true, false}
+use mathlib.Core.Bool.{true}
 use mathlib.Core.List.{List, [], _∷_}
 use Prim.Native.Nat.{ℕ}
 use Rattle.rules.specs.Numbers.{bit}
@@ -12,7 +12,7 @@ use Rattle.rules.specs.StepA.{afterA}
 use Rattle.rules.specs.StepB.{rstRises, inOrder}
 use Rattle.rules.specs.Step.{step, after}
 use Rattle.rules.specs.Examples.{bytesOf}
-use Rattle.rules.specs.declared.codes.Code.the-variants.{Done, BeyondLimit}
+use Rattle.rules.specs.declared.codes.Code.the-variants.{Done}
 use Rattle.rules.specs.declared.records.Event.the-variants.{WordWrite, Drive}
 use Rattle.rules.proofs.Computes.{computes}
 
