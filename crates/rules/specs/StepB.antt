@@ -83,6 +83,7 @@ abbrev pub offsetCleared : Transfer → Transfer
 offsetCleared t =
     record { host = t .host; scsi = t .scsi; counter = t .counter; offset = 0; ack = false; last = t .last }
 
+-- what a bus reset changes
 unfoldable pub busReset : State → State
 busReset now =
     let r = now .registers in
@@ -111,13 +112,13 @@ busReset now =
 unfoldable pub afterRstRises : State → State → State
 afterRstRises last now = cond (rstRises last now) (busReset now) now
 
--- 3. "REQ rises and RST not seen: REQINIT."
+-- 3. "REQ rises and RST not seen"
 unfoldable pub reqRises : State → State → Bool
 reqRises last now =
     reqSeen (now .registers) (now .lines) && not (reqSeen (last .registers) (last .lines))
     && not (rstSeen (now .registers) (now .lines))
 
--- "If connected, IO seen and ENSPCHK, and data with parity has an even number of ones: SCSIPERR"
+-- "If connected, IO seen and ENSPCHK, and data with parity has an even number of ones"
 unfoldable pub parityBad : State → Bool
 parityBad now =
     connected (now .registers) (now .lines) && ioSeen (now .registers) (now .lines) && now .registers .sxfrctl1 .enspchk
@@ -157,6 +158,7 @@ storedByte now =
     cond (countedReq now && ioSeen (now .registers) (now .lines))
     (dataSeen (now .registers) (now .lines) (now .transfer) ∷ []) []
 
+-- "REQINIT. ... SCSIPERR, and with ENAUTOATNP 343h bit 4. ... SYNCERR, then offset goes up one and an inbound byte is stored."
 unfoldable pub reqRisen : State → State
 reqRisen now =
     let r = now .registers in
@@ -258,15 +260,15 @@ phaseChanged now =
 unfoldable pub afterPhaseChanges : State → State → State
 afterPhaseChanges last now = cond (phaseChanges last now) (phaseChanged now) now
 
--- THE FIVE IN THEIR ORDER
+-- THE FIVE, IN THIS ORDER
 unfoldable pub inOrder : State → ℕ → State → State
 inOrder last ticks now =
     afterPhaseChanges last (afterQuietTicks ticks (afterReqRises last (afterRstRises last (afterReqFalls last now))))
 
--- the state after B
+-- the state after B: s is the state at the end of the last event
 unfoldable pub afterB : State → Event → State
 afterB s e = inOrder s (ticksOf e) (afterA s e)
 
--- what the third step is handed: there a REQ is beyond the limit or not
+-- what "REQ rises" is handed: in that state a REQ is beyond the limit or not
 unfoldable pub atReq : State → Event → State
 atReq s e = afterRstRises s (afterReqFalls s (afterA s e))
