@@ -9,12 +9,15 @@ use Rattle.rules.specs.State.{State}
 use Rattle.rules.specs.Seen.{rstSeen, reqSeen, ioSeen, bsySeen, selSeen, connected, matched, mismatched, dataSeen}
 use Rattle.rules.specs.StepB.{reqFalls, ackReleased, afterReqFalls, rstRises, busReset, afterRstRises, reqRises, parityBad, attention, synchronousReq, beyondLimit, beyond, countedReq, lateByte, storedByte, reqRisen, afterReqRises, quietAfter, busFree, busFreed, afterQuietTicks, phaseChanges, phaseChanged, afterPhaseChanges, inOrder}
 use Rattle.rules.specs.Changed.{withStatus, withQuiet}
+use Rattle.image.specs.Image.{stateAt}
 use Rattle.rules.specs.declared.chip.Status.{Status}
 use Rattle.rules.proofs.InOrder.{falls-keeps}
-use Rattle.rules.proofs.Logic.{never, left-true, cond-case}
+use Rattle.rules.proofs.Logic.{never, left-true}
 use Rattle.edges.specs.Components.{registersB, transferB, statusB}
 use Rattle.edges.specs.From.{rstRisesFrom, reqRisesFrom, synchronousReqFrom, quietFrom, edgesFrom, appliedFrom}
+use Rattle.edges.specs.Since.{lastOf, beyondSince, rstOf, reqOf, mismatchedOf}
 use Rattle.edges.specs.declared.edges.Edges.{Edges}
+use Rattle.edges.specs.declared.last.Seen.{Seen}
 
 -- REQ does not rise where it falls, nor where RST is seen
 rises-not-falls : (now was : Bool) (x : Bool) → (now && not was && x) ≡ true → (was && not now) ≡ false
@@ -53,12 +56,12 @@ module _ (last now : State) where
   reset-two : rstRises last now ≡ true → afterRstRises last (afterReqFalls last now) ≡ busReset now
   unfolding afterReqFalls afterRstRises ackReleased busReset rstRises rstSeen
   reset-two r =
-      cond-case (λ n. afterRstRises last n ≡ busReset now) (reqFalls last now) (ackReleased now) now (λ f. rw r) (λ f. rw r)
+      falls-keeps (λ n. afterRstRises last n ≡ busReset now) last now (rw r) (λ h. rw r)
 
   unreset-two : rstRises last now ≡ false → afterRstRises last (afterReqFalls last now) ≡ afterReqFalls last now
   unfolding afterReqFalls ackReleased rstRises rstSeen
   unreset-two r =
-      cond-case (λ n. afterRstRises last n ≡ n) (reqFalls last now) (ackReleased now) now (λ f. calm (ackReleased now) r) (λ f. calm now r)
+      falls-keeps (λ n. afterRstRises last n ≡ n) last now (calm now r) (λ h. calm (ackReleased now) r)
 
   unfallen : reqRises last now ≡ true → afterReqFalls last now ≡ now
   unfolding afterReqFalls
@@ -70,7 +73,7 @@ module _ (last now : State) where
 
   unrisen : reqRises last now ≡ false → reqRises last (afterReqFalls last now) ≡ false
   unfolding afterReqFalls ackReleased reqRises rstSeen
-  unrisen u = cond-case (λ n. reqRises last n ≡ false) (reqFalls last now) (ackReleased now) now (λ f. u) (λ f. u)
+  unrisen u = falls-keeps (λ n. reqRises last n ≡ false) last now u (λ h. h)
 
 -- the last two steps of a state, where it is known whether the bus becomes free
 abbrev phased : Bool → Status → Status
@@ -203,11 +206,11 @@ module _ (last : State) (ticks : ℕ) (now : State) where
   -- nor do the quiet ticks look at the automatic ACK
   quiet-fallen : quietAfter ticks (afterReqFalls last now) ≡ quietAfter ticks now
   unfolding ackReleased quietAfter bsySeen selSeen
-  quiet-fallen = falls-keeps (λ n. quietAfter ticks n ≡ quietAfter ticks now) last (λ n h. h) now refl
+  quiet-fallen = falls-keeps (λ n. quietAfter ticks n ≡ quietAfter ticks now) last now refl (λ h. h)
 
   free-fallen : busFree ticks (afterReqFalls last now) ≡ busFree ticks now
   unfolding ackReleased busFree quietAfter bsySeen selSeen
-  free-fallen = falls-keeps (λ n. busFree ticks n ≡ busFree ticks now) last (λ n h. h) now refl
+  free-fallen = falls-keeps (λ n. busFree ticks n ≡ busFree ticks now) last now refl (λ h. h)
 
   abbrev Ordered : Type 0
   Ordered = inOrder last ticks now ≡ appliedFrom (edgesFrom rst req now ticks) was now
@@ -258,3 +261,21 @@ module _ (last : State) (ticks : ℕ) (now : State) where
       by true u p q = rw (reset-two last now p, edges-reset p) (none last (busReset now) (reset-no-req last now p))
       by false true p q = rw (unreset-two last now p ∙ unfallen last now q, edges-risen p q) (some last now q)
       by false false p q = rw (unreset-two last now p, edges-other p q) (none last (afterReqFalls last now) (unrisen last now q))
+
+-- B since the bytes that were seen
+module _ (x : Seen) (ticks : ℕ) (now : State) where
+  pub since : appliedFrom (edgesFrom (rstOf x) (reqOf x) now ticks) (mismatchedOf x) now ≡ inOrder (lastOf x) ticks now
+  unfolding rstOf reqOf mismatchedOf stateAt
+  since = sym (in-order (lastOf x) ticks now)
+
+  pub beyond-since : (edgesFrom (rstOf x) (reqOf x) now ticks) .beyond ≡ beyondSince x now
+  unfolding beyondSince rstOf reqOf stateAt
+  beyond-since = sym (beyond-in-order (lastOf x) ticks now)
+
+  -- is B since any state that has them
+  module _ (s : State) (p : rstOf x ≡ rstSeen s) (q : reqOf x ≡ reqSeen s) where
+    pub as-seen : mismatchedOf x ≡ mismatched s → inOrder (lastOf x) ticks now ≡ inOrder s ticks now
+    as-seen r = sym since ∙ (λ i. appliedFrom (edgesFrom (p i) (q i) now ticks) (r i) now) ∙ sym (in-order s ticks now)
+
+    pub beyond-as-seen : beyondSince x now ≡ beyond s (afterRstRises s (afterReqFalls s now))
+    beyond-as-seen = sym beyond-since ∙ (λ i. (edgesFrom (p i) (q i) now ticks) .beyond) ∙ sym (beyond-in-order s ticks now)

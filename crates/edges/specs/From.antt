@@ -1,4 +1,6 @@
--- Step B, where of the state at the end of the last event only RST, REQ and the mismatch that were seen are known.
+-- B with its edges found all at once in the state after A and applied side by side, where of the state at the end of the last
+-- event only RST, REQ and the mismatch that were seen are known. This is not the definition of B (crates/rules/specs/StepB.antt:
+-- five steps, one after the other) but the form that the code computes, proved equal to it in proofs/InOrder.antt.
 use Prim.Native.Nat.{ℕ}
 use mathlib.Core.Bool.{Bool, not, _&&_}
 use Rattle.rules.specs.State.{State}

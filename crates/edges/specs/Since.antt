@@ -3,7 +3,9 @@ use Prim.Native.Nat.{ℕ}
 use mathlib.Core.Bool.{Bool}
 use mathlib.Core.List.{List}
 use lib.ListN.{getD, set, replicate}
+use Rattle.rules.specs.State.{State}
 use Rattle.rules.specs.Seen.{rstSeen, reqSeen, mismatched}
+use Rattle.rules.specs.StepB.{afterReqFalls, afterRstRises, beyond}
 use Rattle.image.specs.Image.{stateAt}
 use Rattle.image.specs.Layout.{controlPlace, imageSize, scsiseqPlace, scsisigPlace, upperPlace}
 use Rattle.edges.specs.declared.last.Seen.{Seen}
@@ -15,6 +17,14 @@ seenOf m = record { seq = getD m scsiseqPlace 0; sig = getD m scsisigPlace 0; up
 abbrev pub spread : Seen → List ℕ
 spread x =
     set (set (set (set (replicate imageSize 0) scsiseqPlace (x .seq)) scsisigPlace (x .sig)) upperPlace (x .upper)) controlPlace (x .control)
+
+-- a state of which nothing else is known
+abbrev pub lastOf : Seen → State
+lastOf x = stateAt (spread x)
+
+-- did a REQ go beyond the limit?
+unfoldable pub beyondSince : Seen → State → Bool
+beyondSince x now = beyond (lastOf x) (afterRstRises (lastOf x) (afterReqFalls (lastOf x) now))
 
 unfoldable pub rstOf : Seen → Bool
 rstOf x = rstSeen (stateAt (spread x))

@@ -3,9 +3,9 @@ ghost use mathlib.Core.Path.{_≡_};
 ghost use mathlib.Core.Bool.{_&&_};
 ghost use lib.Dec.{eqb};
 ghost use lib.ListN.{getD};
+ghost use Rattle.rules.specs.StepB.{inOrder};
 ghost use Rattle.image.specs.Image.{imageOf, stateAt, IsImage};
-ghost use Rattle.edges.specs.From.{edgesFrom, appliedFrom};
-ghost use Rattle.edges.specs.Since.{seenOf, rstOf, reqOf, mismatchedOf};
+ghost use Rattle.edges.specs.Since.{seenOf, lastOf, beyondSince, rstOf, reqOf, mismatchedOf};
 ghost use Rattle.image.specs.Layout.{controlPlace, scsiseqPlace, scsisigPlace, upperPlace};
 use crate::edges_in;
 use crate::found::busy;
@@ -57,8 +57,8 @@ fn is_same(m: &Image, x: Seen) -> bool
 // B on an image; whether a REQ went beyond the limit.
 pub fn edges_since(m: &mut Image, x: Seen, ticks: u32) -> bool
     requires { ⌜ IsImage (now m) ⌝ }
-    ensures { λ b. ⌜ b ≡ (edgesFrom (rstOf x) (reqOf x) (stateAt (now (m .entry))) ticks) .beyond ⌝ }
-    ensures { λ _. ⌜ now (m .exit) ≡ imageOf (appliedFrom (edgesFrom (rstOf x) (reqOf x) (stateAt (now (m .entry))) ticks) (mismatchedOf x) (stateAt (now (m .entry)))) ⌝ }
+    ensures { λ b. ⌜ b ≡ beyondSince x (stateAt (now (m .entry))) ⌝ }
+    ensures { λ _. ⌜ now (m .exit) ≡ imageOf (inOrder (lastOf x) ticks (stateAt (now (m .entry)))) ⌝ }
 {
     if is_same(m, x) & (ticks == 0) {
         if busy(m, false) {

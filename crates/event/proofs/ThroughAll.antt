@@ -7,7 +7,7 @@ use Rattle.rules.specs.State.{State}
 use Rattle.rules.specs.Seen.{path}
 use Rattle.rules.specs.Reads.{valueRead}
 use Rattle.rules.specs.StepA.{afterA}
-use Rattle.rules.specs.StepB.{edges, edgesOf, afterB}
+use Rattle.rules.specs.StepB.{beyond, atReq, afterB}
 use Rattle.rules.specs.StepC.{Settling, conditions, settle, turns, started, settledC}
 use Rattle.rules.specs.StepD.{afterD}
 use Rattle.rules.specs.Step.{done}
@@ -61,7 +61,7 @@ module _ (s : State) (e : Event) (i : InRange (afterB s e)) (j : InBytes (afterB
         ∙ (λ v. imageOf (closedBy (x v) (y v) (z v) (acks-are v) (parts.settledState s e)))
         ∙ ap imageOf (parts.all-of-d s e)
 
-    pub leaves : {code : Code} → code ≡ cond ((edgesOf s e) .beyond) BeyondLimit Done → {value : ℕ} → value ≡ valueRead s e → Leaves (done s e) d (record { code = code; value = value; moves = t .moves; acks = t .acks; sent = t .sent })
+    pub leaves : {code : Code} → code ≡ cond (beyond s (atReq s e)) BeyondLimit Done → {value : ℕ} → value ≡ valueRead s e → Leaves (done s e) d (record { code = code; value = value; moves = t .moves; acks = t .acks; sent = t .sent })
     unfolding done
     leaves o v =
         record {

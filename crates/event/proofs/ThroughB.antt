@@ -1,5 +1,5 @@
 -- B, on the image that A left.
-use mathlib.Core.Path.{_≡_, ap, sym, _∙_}
+use mathlib.Core.Path.{_≡_, ap, _∙_}
 use mathlib.Core.Bool.{Bool}
 use mathlib.Core.List.{List}
 use Prim.Native.Nat.{ℕ}
@@ -8,15 +8,15 @@ use Rattle.rules.specs.Seen.{rstSeen, reqSeen, mismatched}
 use Rattle.rules.specs.Events.{ticksOf}
 use Rattle.rules.specs.Codes.{accessCode, isDone}
 use Rattle.rules.specs.StepA.{afterA}
-use Rattle.rules.specs.StepB.{edges, edgesOf, afterB}
+use Rattle.rules.specs.StepB.{beyond, inOrder, atReq, afterB}
 use Rattle.rules.specs.Ranges.{InRange, InBytes, EventFits}
 use Rattle.rules.specs.declared.codes.Code.the-variants.{Done}
 use Rattle.rules.specs.declared.records.Event.{Event}
-use Rattle.rules.specs.declared.chip.Edges.{Edges}
 use Rattle.rules.proofs.Ranges.{after-a-fits, bytes-after-a, after-b-fits, bytes-after-b}
 use Rattle.image.specs.Image.{imageOf, stateAt, IsImage}
-use Rattle.edges.specs.From.{edgesFrom, appliedFrom}
-use Rattle.edges.proofs.From.{edges-from, applied-from}
+use Rattle.edges.specs.Since.{lastOf, beyondSince, rstOf, reqOf, mismatchedOf}
+use Rattle.edges.specs.declared.last.Seen.{Seen}
+use Rattle.edges.proofs.InOrder.{as-seen, beyond-as-seen}
 use Rattle.effects.proofs.Going.{image-is, state-is}
 
 module _ (s : State) (i : InRange s) (j : InBytes s) (e : Event) (f : EventFits e) (d : accessCode s e ≡ Done) {n : List ℕ} (h : n ≡ imageOf (afterA s e)) where
@@ -38,20 +38,15 @@ module _ (s : State) (i : InRange s) (j : InBytes s) (e : Event) (f : EventFits 
   pub b-bytes : InBytes (afterB s e)
   b-bytes = bytes-after-b s e a-bytes
 
-  module _ {rst req : Bool} (p : rst ≡ rstSeen s) (q : req ≡ reqSeen s) {ticks : ℕ} (t : ticks ≡ ticksOf e) where
-    edges-are : edgesFrom rst req (stateAt n) ticks ≡ edgesOf s e
-    unfolding edgesOf
-    edges-are = (λ x. edgesFrom (p x) (q x) (state-a x) (t x)) ∙ sym (edges-from s (afterA s e) (ticksOf e))
+  module _ (x : Seen) (p : rstOf x ≡ rstSeen s) (q : reqOf x ≡ reqSeen s) {ticks : ℕ} (t : ticks ≡ ticksOf e) where
+    pub beyond-is : {b : Bool} → b ≡ beyondSince x (stateAt n) → b ≡ beyond s (atReq s e)
+    unfolding atReq
+    beyond-is k = k ∙ ap (λ (a : State). beyondSince x a) state-a ∙ beyond-as-seen x (ticksOf e) (afterA s e) s p q
 
-    pub beyond-is : {b : Bool} → b ≡ (edgesFrom rst req (stateAt n) ticks) .beyond → b ≡ (edgesOf s e) .beyond
-    beyond-is k = k ∙ ap (λ (g : Edges). g .beyond) edges-are
-
-    module _ {was : Bool} (r : was ≡ mismatched s) {b : List ℕ} (l : b ≡ imageOf (appliedFrom (edgesFrom rst req (stateAt n) ticks) was (stateAt n))) where
+    module _ (r : mismatchedOf x ≡ mismatched s) {b : List ℕ} (l : b ≡ imageOf (inOrder (lastOf x) ticks (stateAt n))) where
       pub is-b : b ≡ imageOf (afterB s e)
       unfolding afterB
-      is-b =
-          l ∙ (λ x. imageOf (appliedFrom (edges-are x) (r x) (state-a x)))
-          ∙ ap imageOf (sym (applied-from (edgesOf s e) s (afterA s e)))
+      is-b = l ∙ (λ i. imageOf (inOrder (lastOf x) (t i) (state-a i))) ∙ ap imageOf (as-seen x (ticksOf e) (afterA s e) s p q r)
 
       pub image-b : IsImage b
       image-b = image-is (afterB s e) is-b b-fits b-bytes

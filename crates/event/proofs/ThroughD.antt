@@ -31,7 +31,7 @@ module _ (s : State) (h : path (s .registers) ≡ true) where
   unready =
       let r = s .registers in
       open-path (r .sxfrctl0 .spioen) (r .sxfrctl0 .dmaen) (not (Bool·beq (r .dmacntrl0 .write) (r .scsisig .ioexp)))
-      (matched r (s .lines)) (reqSeen r (s .lines)) (not (s .transfer .ack)) h
+      (matched s) (reqSeen s) (not (s .transfer .ack)) h
 
   unconflicted : fifoConflict (s .registers) ≡ false
   unfolding fifoConflict

@@ -1,33 +1,30 @@
 -- Document 01, "Beliefs to rule out": each false belief with the fact that rules it out.
 use mathlib.Core.Path.{_≡_, refl, sym, _∙_, ap, ap₂}
-use mathlib.Core.Bool.{Bool, true, false, not, _&&_, _||_, cond, and-not-self, and-false, Bool·beq}
+use mathlib.Core.Bool.{Bool, true, false, _&&_, _||_, cond, and-false}
 use mathlib.Core.List.{List, [], _∷_, _++_, append-assoc, append-nil}
 use Prim.Native.Nat.{ℕ, _+_, _/_, _%_, _≤_}
-use native.Mathlib.Omega.{arith}
-use lib.Dec.{ltb}
-use lib.ListN.{length, take, drop, take-append-drop}
+use lib.ListN.{length, take-append-drop}
 use borrow.Author.Tests.{ltb-false}
-use Rattle.rules.specs.State.{State, Transfer, powerReset}
-use Rattle.rules.specs.Seen.{rstSeen, connected, matched, normal, path}
+use Rattle.rules.specs.State.{State, Transfer}
+use Rattle.rules.specs.Seen.{rstSeen, connected, matched, path}
 use Rattle.rules.specs.Interrupts.{instat, irq}
-use Rattle.rules.specs.Events.{offered, asked, portWrite, portRead, wide, writes}
+use Rattle.rules.specs.Events.{offered, portWrite, writes}
 use Rattle.rules.specs.Codes.{noRoom, accessCode}
-use Rattle.rules.specs.StepA.{clrch, clrstcnt, rstfifo, hostA, counterA, transferA, registersA, afterA}
-use Rattle.rules.specs.StepB.{ackReleased, afterReqFalls, rstRises, busReset, afterRstRises, reqRises, reqRisen, busFreed, phaseChanged, afterB, atReq}
-use Rattle.rules.specs.StepC.{Settling, conditions, canMove, move, canHandshake, handshake, settle, turns, started, settledC}
-use Rattle.rules.specs.StepD.{finished, afterD}
+use Rattle.rules.specs.StepA.{rstfifo, hostA, transferA, afterA}
+use Rattle.rules.specs.StepB.{rstRises, busReset, reqRises, afterB, atReq}
+use Rattle.rules.specs.StepC.{Settling, conditions, canMove, move, canHandshake, settle, turns, started, settledC}
 use Rattle.rules.specs.Answers.{answerOf}
-use Rattle.rules.specs.Step.{step, answer, after}
+use Rattle.rules.specs.Step.{step, after}
 use Rattle.rules.specs.Examples.{Row, row, misses}
 use Rattle.rules.specs.declared.codes.Code.the-variants.{Done}
 use Rattle.rules.specs.declared.chip.Conditions.{Conditions}
 use Rattle.rules.specs.declared.registers.Registers.{Registers}
 use Rattle.rules.specs.declared.records.Lines.{Lines}
 use Rattle.rules.specs.declared.records.Event.{Event}
-use Rattle.rules.specs.declared.records.Event.the-variants.{WordWrite, Drive}
+use Rattle.rules.specs.declared.records.Event.the-variants.{WordWrite}
 use Rattle.rules.proofs.Computes.{computes}
-use Rattle.rules.proofs.InOrder.{Keeps, falls-keeps, last-keeps, ioexp-keeps, Apart, apartOf, b-leaves, req-leaves, scsi-b}
-use Rattle.rules.proofs.Logic.{never, left-true, right-true, cond-case}
+use Rattle.rules.proofs.InOrder.{reset-leaves, ioexp-off, Apart, apartOf, b-leaves, req-leaves, scsi-b}
+use Rattle.rules.proofs.Logic.{never, left-true}
 use Rattle.rules.proofs.Refusals.{done-passed}
 use Rattle.rules.proofs.Settling.{settle-keeps}
 
@@ -155,15 +152,9 @@ module _ (s : State) (e : Event) (rises : rstRises s (afterA s e) ≡ true) wher
   stores-none = scsi-b s e ∙ rw (rst-at-req, and-false) (append-nil ((afterA s e) .transfer .scsi))
 
   -- 343h is 0 after the reset, and IOEXP with it
-  reset-at-req : (atReq s e) .registers .scsisig .ioexp ≡ false
-  unfolding atReq afterRstRises ackReleased busReset rstRises rstSeen
-  reset-at-req = rw (still-rises ∙ rises)
-    where
-      still-rises : rstRises s (afterReqFalls s (afterA s e)) ≡ rstRises s (afterA s e)
-      still-rises = falls-keeps (λ n. rstRises s n ≡ rstRises s (afterA s e)) s (λ n h. h) (afterA s e) refl
-
   ioexp-after-b : (afterB s e) .registers .scsisig .ioexp ≡ false
-  ioexp-after-b = last-keeps (λ n. n .registers .scsisig .ioexp ≡ false) ioexp-keeps s e reset-at-req
+  unfolding busReset
+  ioexp-after-b = reset-leaves (λ n. n .registers .scsisig .ioexp ≡ false) ioexp-off s e (λ n. refl) rises
 
   host-same : (afterB s e) .transfer .host ≡ (afterA s e) .transfer .host
   host-same = ap (λ (a : Apart). a .host) (b-leaves s e)

@@ -1,8 +1,7 @@
 -- Opening a table: `unfolding computes` alone lets every definition of the step compute.
 use Prim.Native.Nat.{ℕ}
-use mathlib.Core.List.{List}
 use Rattle.rules.specs.Numbers.{ones, padded}
-use Rattle.rules.specs.State.{State, powerReset}
+use Rattle.rules.specs.State.{powerReset}
 use Rattle.rules.specs.Seen.{rstSeen, atnSeen, selSeen, bsySeen, manual, automatic, normal, ackDriven, ackSeen, connected, matched, path, synchronous, limit, mismatched, driving, dataDriven, parityDriven, dataSeen, paritySeen, parityEven}
 use Rattle.rules.specs.Map.{table, readAt, writtenAt}
 use Rattle.rules.specs.Records.{linesOf, wellFormed, fieldsOf, decode}

@@ -1,10 +1,11 @@
--- B goes in five steps: what each change that a step can make keeps, B keeps.
+-- B goes in five steps: what the changes that they make keep, B keeps. The proofs by `search` take the steps in whatever order.
 use Prim.Native.Nat.{ℕ}
 use mathlib.Core.Path.{_≡_, refl, ap, sym, _∙_}
 use mathlib.Core.Bool.{Bool, true, false, cond}
 use mathlib.Core.List.{List, [], _++_, append-nil}
 use Rattle.rules.specs.State.{State}
 use Rattle.rules.specs.Changed.{withQuiet}
+use Rattle.rules.specs.Seen.{rstSeen}
 use Rattle.rules.specs.Events.{ticksOf}
 use Rattle.rules.specs.StepA.{afterA}
 use Rattle.rules.specs.StepB.{reqFalls, ackReleased, afterReqFalls, rstRises, busReset, afterRstRises, reqRises, storedByte, reqRisen, afterReqRises, quietAfter, busFree, busFreed, afterQuietTicks, phaseChanges, phaseChanged, afterPhaseChanges, inOrder, afterB, atReq}
@@ -13,31 +14,61 @@ use Rattle.rules.specs.declared.records.Lines.{Lines}
 use Rattle.rules.specs.declared.records.Event.{Event}
 use Rattle.rules.proofs.Logic.{cond-case}
 
--- a step either makes its change or leaves the state as it is
-module _ (P : State → Type 0) (last : State) where
-  pub falls-keeps : ((n : State) → P n → P (ackReleased n)) → (n : State) → P n → P (afterReqFalls last n)
+-- a step makes its change or leaves the state as it is
+module _ (P : State → Type 0) (last n : State) (p : P n) where
+  pub falls-keeps : (P n → P (ackReleased n)) → P (afterReqFalls last n)
   unfolding afterReqFalls
-  falls-keeps f n p = cond-case P (reqFalls last n) (ackReleased n) n (λ h. f n p) (λ h. p)
+  falls-keeps f = cond-case P (reqFalls last n) (ackReleased n) n (λ h. f p) (λ h. p)
 
-  pub reset-keeps : ((n : State) → P n → P (busReset n)) → (n : State) → P n → P (afterRstRises last n)
+  reset-keeps : (P n → P (busReset n)) → P (afterRstRises last n)
   unfolding afterRstRises
-  reset-keeps f n p = cond-case P (rstRises last n) (busReset n) n (λ h. f n p) (λ h. p)
+  reset-keeps f = cond-case P (rstRises last n) (busReset n) n (λ h. f p) (λ h. p)
 
-  pub rises-keeps : ((n : State) → P n → P (reqRisen n)) → (n : State) → P n → P (afterReqRises last n)
+  rises-keeps : (P n → P (reqRisen n)) → P (afterReqRises last n)
   unfolding afterReqRises
-  rises-keeps f n p = cond-case P (reqRises last n) (reqRisen n) n (λ h. f n p) (λ h. p)
+  rises-keeps f = cond-case P (reqRises last n) (reqRisen n) n (λ h. f p) (λ h. p)
 
-  pub phase-keeps : ((n : State) → P n → P (phaseChanged n)) → (n : State) → P n → P (afterPhaseChanges last n)
+  phase-keeps : (P n → P (phaseChanged n)) → P (afterPhaseChanges last n)
   unfolding afterPhaseChanges
-  phase-keeps f n p = cond-case P (phaseChanges last n) (phaseChanged n) n (λ h. f n p) (λ h. p)
+  phase-keeps f = cond-case P (phaseChanges last n) (phaseChanged n) n (λ h. f p) (λ h. p)
 
 -- the quiet ticks are counted in any case
-pub quiet-keeps : (P : State → Type 0) → ((n : State) → P n → P (busFreed n)) → (ticks : ℕ) (n : State) → P (withQuiet (quietAfter ticks n) n) → P (afterQuietTicks ticks n)
+ticks-make : (P : State → Type 0) → ((n : State) → P n → P (busFreed n)) → (ticks : ℕ) (n : State) → P (withQuiet (quietAfter ticks n) n) → P (afterQuietTicks ticks n)
 unfolding afterQuietTicks
-quiet-keeps P f ticks n p =
+ticks-make P f ticks n p =
     let counted = withQuiet (quietAfter ticks n) n in
     cond-case P (busFree ticks n) (busFreed counted) counted (λ h. f counted p) (λ h. p)
 
+-- what every step but "REQ rises" keeps
+pub record Spares (P : State → Type 0) : Type 0 where
+  pub released : (n : State) → P n → P (ackReleased n)
+  pub reset : (n : State) → P n → P (busReset n)
+  pub counted : (n : State) (ticks : ℕ) → P n → P (withQuiet (quietAfter ticks n) n)
+  pub freed : (n : State) → P n → P (busFreed n)
+  pub changed : (n : State) → P n → P (phaseChanged n)
+
+module _ (P : State → Type 0) (k : Spares P) (s : State) (e : Event) where
+  falls : (n : State) → P n → P (afterReqFalls s n)
+  falls n p = falls-keeps P s n p (k .released n)
+
+  resets : (n : State) → P n → P (afterRstRises s n)
+  resets n p = reset-keeps P s n p (k .reset n)
+
+  ticks : (n : State) → P n → P (afterQuietTicks (ticksOf e) n)
+  ticks n p = ticks-make P (k .freed) (ticksOf e) n (k .counted n (ticksOf e) p)
+
+  phase : (n : State) → P n → P (afterPhaseChanges s n)
+  phase n p = phase-keeps P s n p (k .changed n)
+
+  pub before-req : P (afterA s e) → P (atReq s e)
+  unfolding atReq
+  before-req p = search (falls, resets, ticks, phase) depth 7
+
+  pub after-req : P (afterReqRises s (atReq s e)) → P (afterB s e)
+  unfolding atReq afterB inOrder
+  after-req p = search (falls, resets, ticks, phase) depth 7
+
+-- what every step keeps
 pub record Keeps (P : State → Type 0) : Type 0 where
   pub released : (n : State) → P n → P (ackReleased n)
   pub reset : (n : State) → P n → P (busReset n)
@@ -46,23 +77,56 @@ pub record Keeps (P : State → Type 0) : Type 0 where
   pub freed : (n : State) → P n → P (busFreed n)
   pub changed : (n : State) → P n → P (phaseChanged n)
 
-module _ (P : State → Type 0) (k : Keeps P) (s : State) (e : Event) where
-  -- the first two steps, the other three, and all five
-  pub first-keeps : P (afterA s e) → P (atReq s e)
+module _ (P : State → Type 0) (k : Keeps P) where
+  spares : Spares P
+  spares = record { released = k .released; reset = k .reset; counted = k .counted; freed = k .freed; changed = k .changed }
+
+  module _ (s : State) (e : Event) where
+    rises : (n : State) → P n → P (afterReqRises s n)
+    rises n p = rises-keeps P s n p (k .risen n)
+
+    -- B KEEPS WHAT ITS CHANGES KEEP
+    pub b-keeps : P (afterA s e) → P (afterB s e)
+    b-keeps p = after-req P spares s e (rises (atReq s e) (before-req P spares s e p))
+
+    -- what the count of the quiet ticks makes so
+    pub ticks-leave : ((ticks : ℕ) (n : State) → P (withQuiet (quietAfter ticks n) n)) → P (afterB s e)
+    unfolding afterB inOrder
+    ticks-leave made = search (counted, falls P spares s e, resets P spares s e, rises, phase P spares s e) depth 7
+      where
+        counted : (n : State) → P (afterQuietTicks (ticksOf e) n)
+        counted n = ticks-make P (k .freed) (ticksOf e) n (made (ticksOf e) n)
+
+-- RST, once it is seen to rise, is so to the end of B
+rising : (s : State) → Spares (λ n. rstRises s n ≡ true)
+unfolding rstRises rstSeen ackReleased busReset busFreed phaseChanged
+rising s =
+    record {
+      released = λ n h. h;
+      reset = λ n h. h;
+      counted = λ n ticks h. h;
+      freed = λ n h. h;
+      changed = λ n h. h;
+    }
+
+-- what a bus reset makes so
+module _ (P : State → Type 0) (k : Keeps P) (s : State) (e : Event) (made : (n : State) → P (busReset n)) where
+  makes : (n : State) → rstRises s n ≡ true → P (afterRstRises s n)
+  unfolding afterRstRises
+  makes n r = rw r (made n)
+
+  abbrev Rising : State → Type 0
+  Rising n = rstRises s n ≡ true
+
+  made-before : rstRises s (afterA s e) ≡ true → P (atReq s e)
   unfolding atReq
-  first-keeps p = reset-keeps P s (k .reset) (afterReqFalls s (afterA s e)) (falls-keeps P s (k .released) (afterA s e) p)
+  made-before r =
+      search (makes, falls P (spares P k) s e, ticks P (spares P k) s e, falls Rising (rising s) s e, ticks Rising (rising s) s e) depth 7
 
-  pub last-keeps : P (atReq s e) → P (afterB s e)
-  unfolding atReq afterB inOrder
-  last-keeps p =
-      let r = afterReqRises s (atReq s e) in
-      phase-keeps P s (k .changed) (afterQuietTicks (ticksOf e) r)
-      (quiet-keeps P (k .freed) (ticksOf e) r (k .counted r (ticksOf e) (rises-keeps P s (k .risen) (atReq s e) p)))
+  pub reset-leaves : rstRises s (afterA s e) ≡ true → P (afterB s e)
+  reset-leaves r = after-req P (spares P k) s e (rises P k s e (atReq s e) (made-before r))
 
-  pub b-keeps : P (afterA s e) → P (afterB s e)
-  b-keeps p = last-keeps (first-keeps p)
-
--- what no step of B changes
+-- what no step changes
 pub record Apart : Type 0 where
   pub lines : Lines
   pub control : Dmacntrl0
@@ -84,9 +148,9 @@ apartOf s =
       counter = s .transfer .counter;
     }
 
-apart-keeps : (a : Apart) → Keeps (λ n. apartOf n ≡ a)
+apart : (a : Apart) → Keeps (λ n. apartOf n ≡ a)
 unfolding ackReleased busReset reqRisen busFreed phaseChanged
-apart-keeps a =
+apart a =
     record {
       released = λ n h. h;
       reset = λ n h. h;
@@ -96,39 +160,22 @@ apart-keeps a =
       changed = λ n h. h;
     }
 
--- bits that B clears and never sets
-module _ (s : State) (e : Event) where
-  pub scsien-stays : (afterA s e) .registers .sxfrctl0 .scsien ≡ false → (afterB s e) .registers .sxfrctl0 .scsien ≡ false
-  unfolding ackReleased busReset reqRisen busFreed phaseChanged
-  scsien-stays =
-      b-keeps (λ n. n .registers .sxfrctl0 .scsien ≡ false)
-      (record {
-        released = λ n h. h;
-        reset = λ n h. refl;
-        risen = λ n h. h;
-        counted = λ n ticks h. h;
-        freed = λ n h. h;
-        changed = λ n h. h;
-      })
-      s e
-
-  pub acko-stays : (afterA s e) .registers .scsisig .acko ≡ false → (afterB s e) .registers .scsisig .acko ≡ false
-  unfolding ackReleased busReset reqRisen busFreed phaseChanged
-  acko-stays =
-      b-keeps (λ n. n .registers .scsisig .acko ≡ false)
-      (record {
-        released = λ n h. h;
-        reset = λ n h. refl;
-        risen = λ n h. h;
-        counted = λ n ticks h. h;
-        freed = λ n h. refl;
-        changed = λ n h. h;
-      })
-      s e
-
-pub ioexp-keeps : Keeps (λ n. n .registers .scsisig .ioexp ≡ false)
+-- bits that are cleared and never set
+scsien-off : Keeps (λ n. n .registers .sxfrctl0 .scsien ≡ false)
 unfolding ackReleased busReset reqRisen busFreed phaseChanged
-ioexp-keeps =
+scsien-off =
+    record {
+      released = λ n h. h;
+      reset = λ n h. refl;
+      risen = λ n h. h;
+      counted = λ n ticks h. h;
+      freed = λ n h. h;
+      changed = λ n h. h;
+    }
+
+acko-off : Keeps (λ n. n .registers .scsisig .acko ≡ false)
+unfolding ackReleased busReset reqRisen busFreed phaseChanged
+acko-off =
     record {
       released = λ n h. h;
       reset = λ n h. refl;
@@ -138,28 +185,55 @@ ioexp-keeps =
       changed = λ n h. h;
     }
 
+pub ioexp-off : Keeps (λ n. n .registers .scsisig .ioexp ≡ false)
+unfolding ackReleased busReset reqRisen busFreed phaseChanged
+ioexp-off =
+    record {
+      released = λ n h. h;
+      reset = λ n h. refl;
+      risen = λ n h. h;
+      counted = λ n ticks h. h;
+      freed = λ n h. refl;
+      changed = λ n h. h;
+    }
+
+-- the SCSI FIFO, which only "REQ rises" changes
 abbrev Holding : List ℕ → State → Type 0
 Holding l n = n .transfer .scsi ≡ l
 
+holding : (l : List ℕ) → Spares (Holding l)
+unfolding ackReleased busReset busFreed phaseChanged
+holding l =
+    record {
+      released = λ n h. h;
+      reset = λ n h. h;
+      counted = λ n ticks h. h;
+      freed = λ n h. h;
+      changed = λ n h. h;
+    }
+
 module _ (s : State) (e : Event) where
   pub b-leaves : apartOf (afterB s e) ≡ apartOf (afterA s e)
-  b-leaves = b-keeps (λ n. apartOf n ≡ apartOf (afterA s e)) (apart-keeps (apartOf (afterA s e))) s e refl
+  b-leaves = b-keeps (λ n. apartOf n ≡ apartOf (afterA s e)) (apart (apartOf (afterA s e))) s e refl
 
   pub req-leaves : apartOf (atReq s e) ≡ apartOf (afterA s e)
-  req-leaves = first-keeps (λ n. apartOf n ≡ apartOf (afterA s e)) (apart-keeps (apartOf (afterA s e))) s e refl
+  req-leaves =
+      before-req (λ n. apartOf n ≡ apartOf (afterA s e)) (spares (λ n. apartOf n ≡ apartOf (afterA s e)) (apart (apartOf (afterA s e)))) s e refl
 
-  -- the SCSI FIFO gets the byte that a REQ stores, and no other
-  abbrev pub atReqStored : List ℕ
-  atReqStored = cond (reqRises s (atReq s e)) (storedByte (atReq s e)) []
+  pub scsien-stays : (afterA s e) .registers .sxfrctl0 .scsien ≡ false → (afterB s e) .registers .sxfrctl0 .scsien ≡ false
+  scsien-stays = b-keeps (λ n. n .registers .sxfrctl0 .scsien ≡ false) scsien-off s e
 
-  scsi-first : (atReq s e) .transfer .scsi ≡ (afterA s e) .transfer .scsi
-  unfolding atReq ackReleased busReset
-  scsi-first =
-      let a = afterA s e in
-      let P = Holding (a .transfer .scsi) in
-      reset-keeps P s (λ n h. h) (afterReqFalls s a) (falls-keeps P s (λ n h. h) a refl)
+  pub acko-stays : (afterA s e) .registers .scsisig .acko ≡ false → (afterB s e) .registers .scsisig .acko ≡ false
+  acko-stays = b-keeps (λ n. n .registers .scsisig .acko ≡ false) acko-off s e
 
-  scsi-risen : (afterReqRises s (atReq s e)) .transfer .scsi ≡ (atReq s e) .transfer .scsi ++ atReqStored
+  pub ioexp-stays : (afterA s e) .registers .scsisig .ioexp ≡ false → (afterB s e) .registers .scsisig .ioexp ≡ false
+  ioexp-stays = b-keeps (λ n. n .registers .scsisig .ioexp ≡ false) ioexp-off s e
+
+  -- the byte that a REQ stores
+  abbrev pub storedAtReq : List ℕ
+  storedAtReq = cond (reqRises s (atReq s e)) (storedByte (atReq s e)) []
+
+  scsi-risen : (afterReqRises s (atReq s e)) .transfer .scsi ≡ (atReq s e) .transfer .scsi ++ storedAtReq
   unfolding afterReqRises reqRisen
   scsi-risen = go (reqRises s (atReq s e))
     where
@@ -167,10 +241,9 @@ module _ (s : State) (e : Event) where
       go true = refl
       go false = sym (append-nil ((atReq s e) .transfer .scsi))
 
-  pub scsi-b : (afterB s e) .transfer .scsi ≡ (afterA s e) .transfer .scsi ++ atReqStored
-  unfolding atReq afterB inOrder busFreed phaseChanged
+  pub scsi-b : (afterB s e) .transfer .scsi ≡ (afterA s e) .transfer .scsi ++ storedAtReq
   scsi-b =
-      let r = afterReqRises s (atReq s e) in
-      let P = Holding (r .transfer .scsi) in
-      phase-keeps P s (λ n h. h) (afterQuietTicks (ticksOf e) r) (quiet-keeps P (λ n h. h) (ticksOf e) r refl)
-      ∙ scsi-risen ∙ ap (λ (l : List ℕ). l ++ atReqStored) scsi-first
+      let l = (afterA s e) .transfer .scsi in
+      let m = (afterReqRises s (atReq s e)) .transfer .scsi in
+      after-req (Holding m) (holding m) s e refl ∙ scsi-risen
+      ∙ ap (λ (x : List ℕ). x ++ storedAtReq) (before-req (Holding l) (holding l) s e refl)

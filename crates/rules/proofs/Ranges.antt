@@ -15,7 +15,7 @@ use Rattle.rules.specs.State.{State, Transfer, powerReset}
 use Rattle.rules.specs.Seen.{atnSeen, bsySeen, selSeen, ioSeen, ackDriven, ackSeen, normal, limit, driving, dataDriven, parityDriven, dataSeen}
 use Rattle.rules.specs.Map.{readAt}
 use Rattle.rules.specs.Records.{linesOf, payloadLimit, offsetLimit, eventOf, wellFormed, fieldsOf, payloadOf, decode}
-use Rattle.rules.specs.Events.{writes, reads, valueOf, ticksOf, linesAfter, offered, asked, portWrite}
+use Rattle.rules.specs.Events.{writes, reads, valueOf, linesAfter, offered, asked, portWrite}
 use Rattle.rules.specs.Counter.{counterSize, counted, counterWith}
 use Rattle.rules.specs.Stack.{stackByte, stackPlace, pointerAfter, stackRead, stackWritten, pointed}
 use Rattle.rules.specs.Interrupts.{phasemis, instat, irq}

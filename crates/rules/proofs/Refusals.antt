@@ -1,13 +1,13 @@
 -- Codes: which one, in which order, what a refusal leaves, and where code 6 comes from.
 use mathlib.Core.Path.{_≡_, refl, sym, _∙_, ap}
-use mathlib.Core.Bool.{Bool, true, false, not, _&&_, _||_, cond, and-not-self, and-false}
+use mathlib.Core.Bool.{Bool, true, false, cond, and-not-self}
 use mathlib.Core.List.{List, [], _∷_}
 use Prim.Native.Nat.{ℕ, _≤_}
 use native.Mathlib.Omega.{arith}
-use Rattle.rules.specs.State.{State, powerReset}
+use Rattle.rules.specs.State.{State}
 use Rattle.rules.specs.Map.{readAt, writtenAt}
 use Rattle.rules.specs.Records.{decode}
-use Rattle.rules.specs.Events.{linesAfter, ticksOf}
+use Rattle.rules.specs.Events.{linesAfter}
 use Rattle.rules.specs.Codes.{numberOf, absent, testValue, shut, noRoom, noBytes, accessCode, refusedValue, isDone, isRefusal, mappedCode, mappedValue}
 use Rattle.rules.specs.StepA.{afterA}
 use Rattle.rules.specs.StepB.{reqRises, beyond, atReq}

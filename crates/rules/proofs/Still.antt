@@ -8,7 +8,7 @@ use lib.Dec.{ltb, leb}
 use lib.ListN.{length}
 use borrow.Author.Tests.{le-ltb}
 use Rattle.rules.specs.State.{State, powerReset}
-use Rattle.rules.specs.Changed.{withQuiet, withTransfer}
+use Rattle.rules.specs.Changed.{withTransfer}
 use Rattle.rules.specs.Seen.{ackDriven, ackSeen, bsySeen, connected, ioSeen, matched, mismatched, parityEven, reqSeen, rstSeen, selSeen, synchronous}
 use Rattle.rules.specs.Records.{wellFormed, fieldsOf, decode}
 use Rattle.rules.specs.Events.{writes, reads, valueOf, ticksOf, linesAfter, offered, asked, portWrite, portRead}
@@ -32,7 +32,7 @@ use Rattle.rules.specs.declared.chip.Status.{Status}
 use Rattle.rules.specs.declared.chip.Latches.{Latches}
 use Rattle.rules.proofs.Computes.{computes}
 use Rattle.rules.proofs.Logic.{never, cond-case}
-use Rattle.rules.proofs.InOrder.{Keeps, b-keeps}
+use Rattle.rules.proofs.InOrder.{Keeps, b-keeps, ticks-leave}
 use Rattle.rules.proofs.Refusals.{not-beyond}
 use Rattle.rules.proofs.Ranges.{decode-fits, after-b-fits, power-reset-fits, step-fits, always-in-range}
 use Rattle.rules.proofs.Rest.{Resting, settle-rests, settling-rests}
@@ -98,39 +98,64 @@ after-a-still s r =
     }
 
 -- B of no ticks: nothing rises or falls
-req-fall-still : (s : State) → reqFalls s s ≡ false
+no-fall : (s : State) → reqFalls s s ≡ false
 unfolding reqFalls
-req-fall-still s = and-not-self (reqSeen s)
+no-fall s = and-not-self (reqSeen s)
 
-rst-still : (s : State) → rstRises s s ≡ false
+falls-still : (s : State) → afterReqFalls s s ≡ s
+unfolding afterReqFalls
+falls-still s = rw (no-fall s)
+
+no-reset : (s : State) → rstRises s s ≡ false
 unfolding rstRises
-rst-still s = and-not-self (rstSeen s)
+no-reset s = and-not-self (rstSeen s)
 
-req-rise-still : (s : State) → reqRises s s ≡ false
+reset-still : (s : State) → afterRstRises s s ≡ s
+unfolding afterRstRises
+reset-still s = rw (no-reset s)
+
+no-rise : (s : State) → reqRises s s ≡ false
 unfolding reqRises
-req-rise-still s = rw and-not-self
-
-quiet-still : (s : State) → AtRest s → s .quiet ≤ 8 → quietAfter 0 s ≡ s .quiet
-unfolding quietAfter
-quiet-still s r h = go (bsySeen s || selSeen s) refl
+no-rise s = go (reqSeen s) (not (rstSeen s))
   where
-    go : (b : Bool) → (bsySeen s || selSeen s) ≡ b → cond b 0 (min 8 (s .quiet + 0)) ≡ s .quiet
-    go true e = sym (r .quiet e)
-    go false e = omega arith
+    go : (q n : Bool) → (q && not q && n) ≡ false
+    go true n = refl
+    go false n = refl
 
-free-still : (s : State) → AtRest s → s .quiet ≤ 8 → busFree 0 s ≡ false
-unfolding busFree
-free-still s r h = rw (quiet-still s r h) (and-not-self (leb 8 (s .quiet)))
+rises-still : (s : State) → afterReqRises s s ≡ s
+unfolding afterReqRises
+rises-still s = rw (no-rise s)
 
-phase-still : (s : State) → phaseChanges s s ≡ false
+no-change : (s : State) → phaseChanges s s ≡ false
 unfolding phaseChanges
-phase-still s = and-not-self (mismatched s)
+no-change s = and-not-self (mismatched s)
 
-after-b-still : (s : State) → AtRest s → s .quiet ≤ 8 → afterB s (Ticks 0) ≡ s
-unfolding afterB ticksOf inOrder afterReqFalls afterRstRises afterReqRises afterQuietTicks afterPhaseChanges
-after-b-still s r h =
-    ap (λ (a : State). inOrder s 0 a) (after-a-still s r)
-    ∙ rw (req-fall-still s, rst-still s, req-rise-still s, free-still s r h, quiet-still s r h, phase-still s)
+phase-still : (s : State) → afterPhaseChanges s s ≡ s
+unfolding afterPhaseChanges
+phase-still s = rw (no-change s)
+
+module _ (s : State) (r : AtRest s) (h : s .quiet ≤ 8) where
+  quiet-still : quietAfter 0 s ≡ s .quiet
+  unfolding quietAfter
+  quiet-still = go (bsySeen s || selSeen s) refl
+    where
+      go : (b : Bool) → (bsySeen s || selSeen s) ≡ b → cond b 0 (min 8 (s .quiet + 0)) ≡ s .quiet
+      go true e = sym (r .quiet e)
+      go false e = omega arith
+
+  free-still : busFree 0 s ≡ false
+  unfolding busFree
+  free-still = rw quiet-still (and-not-self (leb 8 (s .quiet)))
+
+  ticks-still : afterQuietTicks 0 s ≡ s
+  unfolding afterQuietTicks
+  ticks-still = rw (free-still, quiet-still)
+
+  after-b-still : afterB s (Ticks 0) ≡ s
+  unfolding afterB ticksOf inOrder
+  after-b-still =
+      ap (λ (a : State). inOrder s 0 a) (after-a-still s r)
+      ∙ simp (falls-still s, reset-still s, rises-still s, ticks-still, phase-still s)
 
 -- C of no ticks
 settled-still : (s : State) → AtRest s → s .quiet ≤ 8 → settledC s (Ticks 0) ≡ started s
@@ -278,9 +303,14 @@ clears-seen false true status e = refl
 clears-seen keep false status e = absurd (never e)
 
 -- SCSIPERR neither rises nor stays where ENSPCHK is 0
+checked-not : (bus enspchk even : Bool) → enspchk ≡ false → (bus && enspchk && even) ≡ false
+checked-not bus enspchk even h = rw (h, and-false)
+
 unchecked : (n : State) → n .registers .sxfrctl1 .enspchk ≡ false → parityBad n ≡ false
 unfolding parityBad
-unchecked n h = rw (h, and-false)
+unchecked n h =
+    checked-not (connected n && ioSeen n) (n .registers .sxfrctl1 .enspchk)
+    (parityEven n) h
 
 abbrev Checked : State → Type 0
 Checked n = n .registers .sxfrctl1 .enspchk ≡ false → n .status .scsiperr ≡ false
@@ -323,20 +353,28 @@ freed-busy : (n : State) → busyAt (busFreed n) ≡ true → busyAt n ≡ true
 unfolding busFreed bsySeen selSeen
 freed-busy n h = seen-before (n .lines .bsy) (n .registers .scsisig .bsyo) (n .lines .sel) (n .registers .scsisig .selo) h
 
+reset-busy : (n : State) → busyAt (busReset n) ≡ true → busyAt n ≡ true
+unfolding busReset bsySeen selSeen
+reset-busy n h = seen-before (n .lines .bsy) (n .registers .scsisig .bsyo) (n .lines .sel) (n .registers .scsisig .selo) h
+
 abbrev Hushed : State → Type 0
 Hushed n = busyAt n ≡ true → n .quiet ≡ 0
 
-ticks-rest : (ticks : ℕ) (n : State) → Hushed (afterQuietTicks ticks n)
-unfolding afterQuietTicks busFreed bsySeen selSeen
-ticks-rest ticks n =
-    let quiet = withQuiet (quietAfter ticks n) n in
-    cond-case Hushed (busFree ticks n) (busFreed quiet) quiet (λ f h. busy-counts ticks n (freed-busy quiet h)) (λ f h. busy-counts ticks n h)
+hushed-keeps : Keeps Hushed
+unfolding ackReleased busReset reqRisen busFreed phaseChanged bsySeen selSeen
+hushed-keeps =
+    record {
+      released = λ n k. k;
+      reset = λ n k h. k (reset-busy n h);
+      risen = λ n k. k;
+      counted = λ n ticks k. busy-counts ticks n;
+      freed = λ n k h. k (freed-busy n h);
+      changed = λ n k. k;
+    }
 
 quiet-rests : (s : State) (e : Event) → Hushed (afterB s e)
-unfolding afterB inOrder afterPhaseChanges phaseChanged bsySeen selSeen
-quiet-rests s e =
-    let n = afterQuietTicks (ticksOf e) (afterReqRises s (afterRstRises s (afterReqFalls s (afterA s e)))) in
-    cond-case Hushed (phaseChanges s n) (phaseChanged n) n (λ f. ticks-rest (ticksOf e) _) (λ f. ticks-rest (ticksOf e) _)
+unfolding bsySeen selSeen
+quiet-rests s e = ticks-leave Hushed hushed-keeps s e busy-counts
 
 -- EVERY EVENT THAT IS DONE LEAVES THE CHIP AT REST
 done-rests : (s : State) (e : Event) → InRange (afterB s e) → AtRest (afterD s e)

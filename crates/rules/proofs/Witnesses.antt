@@ -1,17 +1,18 @@
 -- Concrete cases that meet the hypotheses of the theorems here, computed.
 use mathlib.Core.Path.{_≡_, refl}
-use mathlib.Core.Bool.{true, false}
+use mathlib.Core.Bool.{true}
 use mathlib.Core.List.{List, [], _∷_}
 use Prim.Native.Nat.{ℕ}
 use Rattle.rules.specs.Numbers.{bit}
 use Rattle.rules.specs.State.{State, powerReset}
+use Rattle.rules.specs.Changed.{withQuiet}
 use Rattle.rules.specs.Records.{linesOf}
 use Rattle.rules.specs.Codes.{numberOf, accessCode}
 use Rattle.rules.specs.StepA.{afterA}
-use Rattle.rules.specs.StepB.{rstRises}
+use Rattle.rules.specs.StepB.{rstRises, inOrder}
 use Rattle.rules.specs.Step.{step, after}
 use Rattle.rules.specs.Examples.{bytesOf}
-use Rattle.rules.specs.declared.codes.Code.the-variants.{Done, BeyondLimit}
+use Rattle.rules.specs.declared.codes.Code.the-variants.{Done}
 use Rattle.rules.specs.declared.records.Event.the-variants.{WordWrite, Drive}
 use Rattle.rules.proofs.Computes.{computes}
 
@@ -39,6 +40,15 @@ word-taken = refl
 reset-rises : rstRises powerReset (afterA powerReset (Drive (linesOf 0x100))) ≡ true
 unfolding computes
 reset-rises = refl
+
+-- "in this order": RST rises while the chip drives BSY and seven quiet ticks stand; 343h is 0 when the eighth is added, so that the
+-- bus becomes free, where a count before the reset would find BSY seen
+abbrev drivingBsy : State
+drivingBsy = after powerReset (bytesOf 4 0x23000004 ∷ [])
+
+reset-before-ticks : (inOrder drivingBsy 1 (withQuiet 7 (afterA drivingBsy (Drive (linesOf 0x100))))) .status .busfree ≡ true
+unfolding computes
+reset-before-ticks = refl
 
 -- CLRCH without CLRSTCNT
 clrch-alone : bit 0x02 1 ≡ true

@@ -1,15 +1,15 @@
 -- The whole step: a state and a record give a new state and an answer.
 use Prim.Native.Nat.{ℕ}
-use mathlib.Core.Bool.{Bool, true, false, cond}
+use mathlib.Core.Bool.{cond}
 use mathlib.Core.List.{List, [], _∷_}
 use lib.Dec.{eqb}
 use lib.ListN.{length}
 use Rattle.rules.specs.State.{State, powerReset}
 use Rattle.rules.specs.Records.{decode}
 use Rattle.rules.specs.Reads.{valueRead}
-use Rattle.rules.specs.Codes.{numberOf, accessCode, refusedValue, isDone}
+use Rattle.rules.specs.Codes.{accessCode, refusedValue, isDone}
 use Rattle.rules.specs.StepB.{beyond, atReq}
-use Rattle.rules.specs.StepC.{Settling, settledC}
+use Rattle.rules.specs.StepC.{settledC}
 use Rattle.rules.specs.StepD.{afterD}
 use Rattle.rules.specs.Answers.{Stepped, answerOf, answerBytes, answerSize}
 use Rattle.rules.specs.declared.codes.Code.{Code}

@@ -71,6 +71,7 @@ registersWith q x g r =
 abbrev pub offsetCleared : State → State
 offsetCleared now = withOffset 0 (withAck false now)
 
+-- what a bus reset changes
 unfoldable pub busReset : State → State
 busReset now =
     let r = now .registers in
@@ -92,13 +93,13 @@ busReset now =
 unfoldable pub afterRstRises : State → State → State
 afterRstRises last now = cond (rstRises last now) (busReset now) now
 
--- 3. "REQ rises and RST not seen: REQINIT."
+-- 3. "REQ rises and RST not seen"
 unfoldable pub reqRises : State → State → Bool
 reqRises last now =
     reqSeen now && not (reqSeen last)
     && not (rstSeen now)
 
--- "If connected, IO seen and ENSPCHK, and data with parity has an even number of ones: SCSIPERR"
+-- "If connected, IO seen and ENSPCHK, and data with parity has an even number of ones"
 unfoldable pub parityBad : State → Bool
 parityBad now =
     connected now && ioSeen now && now .registers .sxfrctl1 .enspchk
@@ -138,6 +139,7 @@ storedByte now =
     cond (countedReq now && ioSeen now)
     (dataSeen now ∷ []) []
 
+-- "REQINIT. ... SCSIPERR, and with ENAUTOATNP 343h bit 4. ... SYNCERR, then offset goes up one and an inbound byte is stored."
 unfoldable pub reqRisen : State → State
 reqRisen now =
     let r = now .registers in
@@ -215,15 +217,15 @@ phaseChanged now =
 unfoldable pub afterPhaseChanges : State → State → State
 afterPhaseChanges last now = cond (phaseChanges last now) (phaseChanged now) now
 
--- THE FIVE IN THEIR ORDER
+-- THE FIVE, IN THIS ORDER
 unfoldable pub inOrder : State → ℕ → State → State
 inOrder last ticks now =
     afterPhaseChanges last (afterQuietTicks ticks (afterReqRises last (afterRstRises last (afterReqFalls last now))))
 
--- the state after B
+-- the state after B: s is the state at the end of the last event
 unfoldable pub afterB : State → Event → State
 afterB s e = inOrder s (ticksOf e) (afterA s e)
 
--- what the third step is handed: there a REQ is beyond the limit or not
+-- what "REQ rises" is handed: in that state a REQ is beyond the limit or not
 unfoldable pub atReq : State → Event → State
 atReq s e = afterRstRises s (afterReqFalls s (afterA s e))

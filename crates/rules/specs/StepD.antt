@@ -1,6 +1,6 @@
 -- D, what follows settling; then the latches.
 use Prim.Native.Nat.{ℕ}
-use mathlib.Core.Bool.{Bool, true, false, not, _&&_, _||_}
+use mathlib.Core.Bool.{Bool, not, _&&_, _||_}
 use lib.Dec.{ltb}
 use Rattle.rules.specs.State.{State}
 use Rattle.rules.specs.Changed.{withTransfer, withStatus, withLatches}

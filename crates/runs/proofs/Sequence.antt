@@ -1,6 +1,6 @@
 -- The concrete clearing reaches the start of a run, whatever the lines are.
 use mathlib.Core.Path.{_≡_, refl, sym, ap, _∙_}
-use mathlib.Core.Bool.{Bool, true, false, not, _&&_, _||_, cond, and-false, or-true}
+use mathlib.Core.Bool.{Bool, true, false, and-false, or-true}
 use mathlib.Core.List.{List, [], append-nil}
 use Prim.Native.Nat.{ℕ, _+_, _≤_}
 use native.Mathlib.Omega.{arith}
@@ -11,10 +11,10 @@ use Rattle.rules.specs.Map.{offsetOf, table, writtenAt}
 use Rattle.rules.specs.State.{State}
 use Rattle.rules.specs.Seen.{normal, path}
 use Rattle.rules.specs.Records.{decode, fieldsOf, wellFormed}
-use Rattle.rules.specs.Events.{writes, reads, valueOf, ticksOf, offered, asked, portWrite, portRead, linesAfter}
+use Rattle.rules.specs.Events.{writes, reads, valueOf, offered, asked, portWrite, portRead, linesAfter}
 use Rattle.rules.specs.Codes.{absent, testValue, shut, noRoom, noBytes, accessCode}
 use Rattle.rules.specs.StepA.{clrstcnt, clrch, rstfifo, latchAccess, automaticAck, registersA, hostA, counterA, transferA, afterA}
-use Rattle.rules.specs.StepB.{ackReleased, afterReqFalls, busReset, reqRises, beyond, afterReqRises, busFreed, afterQuietTicks, phaseChanged, inOrder, atReq, afterB}
+use Rattle.rules.specs.StepB.{ackReleased, busReset, reqRises, beyond, afterReqRises, busFreed, phaseChanged, atReq, afterB}
 use Rattle.rules.specs.StepC.{conditions, started, turns, settledC}
 use Rattle.rules.specs.StepD.{finished, afterD}
 use Rattle.rules.specs.Step.{done, access, stepEvent, stepDecoded, step, after}
@@ -25,7 +25,7 @@ use Rattle.rules.specs.declared.map.Register.the-variants.{SXFRCTL0, SCSISIGO, 
 use Rattle.rules.specs.declared.records.Event.{Event}
 use Rattle.rules.specs.declared.records.Event.the-variants.{Write}
 use Rattle.rules.specs.declared.records.Decoded.the-variants.{Well}
-use Rattle.rules.proofs.InOrder.{falls-keeps, reset-keeps, quiet-keeps, phase-keeps, b-keeps, Apart, b-leaves, scsien-stays, acko-stays, ioexp-keeps}
+use Rattle.rules.proofs.InOrder.{Spares, before-req, after-req, Apart, b-leaves, scsien-stays, acko-stays, ioexp-stays}
 use Rattle.rules.proofs.Refusals.{no-rise, not-beyond}
 use Rattle.runs.specs.Run.{Starts, accepted, tookAtReq}
 use Rattle.runs.specs.Clearing.{switchedOff, bothEmpty, mayClear, allClear, allDone, writeRecord, manualValue, controlValue, clearValue, signalValue, openValue, clearingOf}
@@ -231,21 +231,23 @@ record Zeroed (s : State) : Type 0 where
 abbrev At0 : State → Type 0
 At0 n = n .transfer .offset ≡ 0
 
+at0 : Spares At0
+unfolding ackReleased busReset busFreed phaseChanged
+at0 =
+    record {
+      released = λ n h. h;
+      reset = λ n h. refl;
+      counted = λ n ticks h. h;
+      freed = λ n h. refl;
+      changed = λ n h. h;
+    }
+
 offset-B : (s : State) (o v : ℕ) → (afterA s (Write o v)) .transfer .offset ≡ 0 → (afterB s (Write o v)) .transfer .offset ≡ 0
-unfolding afterB inOrder atReq afterReqRises ackReleased busReset busFreed phaseChanged
-offset-B s o v h =
-    let e = Write o v in
-    let first = reset-keeps At0 s (λ n k. refl) (afterReqFalls s (afterA s e)) (falls-keeps At0 s (λ n k. k) (afterA s e) h) in
-    let risen : At0 (afterReqRises s (atReq s e)) = rw (no-req s o v) first in
-    phase-keeps At0 s (λ n k. k) (afterQuietTicks (ticksOf e) (afterReqRises s (atReq s e)))
-    (quiet-keeps At0 (λ n k. refl) (ticksOf e) (afterReqRises s (atReq s e)) risen)
+unfolding afterReqRises
+offset-B s o v h = after-req At0 at0 s (Write o v) (rw (no-req s o v) (before-req At0 at0 s (Write o v) h))
 
 scsi-kept : (s : State) (o v : ℕ) → (afterB s (Write o v)) .transfer .scsi ≡ (afterA s (Write o v)) .transfer .scsi
 scsi-kept s o v = scsi-B s (Write o v) ∙ rw (stores-none s o v) (append-nil ((afterA s (Write o v)) .transfer .scsi))
-
--- and so does an IOEXP of 0
-ioexp-B : (s : State) (e : Event) → (afterA s e) .registers .scsisig .ioexp ≡ false → (afterB s e) .registers .scsisig .ioexp ≡ false
-ioexp-B = b-keeps (λ n. n .registers .scsisig .ioexp ≡ false) ioexp-keeps
 
 module _ (s : State) (m : Emptied s) where
   zeroed-room : length (s .transfer .host) ≤ 128
@@ -328,7 +330,7 @@ module _ (s : State) (m : Zeroed s) where
               mode = rw registers mode;
               write = rw registers ready-write;
             };
-        ioexp = rw registers (ioexp-B s (Write 0x03 signalValue) (ready-signals .0));
+        ioexp = rw registers (ioexp-stays s (Write 0x03 signalValue) (ready-signals .0));
         acko = rw registers (acko-stays s (Write 0x03 signalValue) (ready-signals .1));
       }
 
@@ -374,7 +376,7 @@ module _ (s : State) (m : Ready s) where
         opened =
             rw registers
             (outward-path ((afterB s (Write 0x01 openValue)) .registers) (open-registers .0) (open-registers .1) (open-registers .2)
-            (ioexp-B s (Write 0x01 openValue) (open-signals .0)));
+            (ioexp-stays s (Write 0x01 openValue) (open-signals .0)));
         direction = rw registers (open-registers .0);
       }
 

@@ -1,10 +1,11 @@
 use borrow.Author.Needs.{needs}
-use mathlib.Core.Path.{sym, _∙_}
+use mathlib.Core.Path.{ap, sym, _∙_}
 use lib.Dec.{eqb}
 use borrow.Author.Tests.{eqb-true}
 use Rattle.rules.proofs.Logic.{left-true, right-true}
 use Rattle.image.specs.Image.{imageOf, stateAt}
 use Rattle.edges.specs.From.{edgesFrom, appliedFrom}
+use Rattle.edges.proofs.InOrder.{since, beyond-since}
 use Rattle.edges.proofs.Still.{same-bytes, seen-beyond, seen-quieted, seen-unchanged}
 use Rattle.edges.proofs.since.edges_since.Statement.{statement}
 use Rattle.edges.proofs.since.edges_since.Tie as tie
@@ -20,7 +21,8 @@ returns c =
     let ticks = start .args .ticks in
     let e = same-bytes m x (sym (same .is-same .ensures) ∙ left-true (same .is-same .result) (eqb ticks 0) (first .if1 .taken)) in
     let t = eqb-true ticks 0 (right-true (same .is-same .result) (eqb ticks 0) (first .if1 .taken)) in
-    (seen-beyond m (start .pre) x e t, seen-quieted m (start .pre) x e t (sym (looked .busy .ensures) ∙ c .if2 .taken))
+    let s = stateAt m in
+    (seen-beyond m (start .pre) x e t ∙ beyond-since x ticks s, seen-quieted m (start .pre) x e t (sym (looked .busy .ensures) ∙ c .if2 .taken) ∙ ap imageOf (since x ticks s))
 
 returns-2 : tie.Need-returns-2
 returns-2 c =
@@ -33,7 +35,8 @@ returns-2 c =
     let ticks = start .args .ticks in
     let e = same-bytes m x (sym (same .is-same .ensures) ∙ left-true (same .is-same .result) (eqb ticks 0) (first .if1 .taken)) in
     let t = eqb-true ticks 0 (right-true (same .is-same .result) (eqb ticks 0) (first .if1 .taken)) in
-    (seen-beyond m (start .pre) x e t, seen-unchanged m (start .pre) x e t (sym (looked .busy .ensures) ∙ c .if2 .left))
+    let s = stateAt m in
+    (seen-beyond m (start .pre) x e t ∙ beyond-since x ticks s, seen-unchanged m (start .pre) x e t (sym (looked .busy .ensures) ∙ c .if2 .left) ∙ ap imageOf (since x ticks s))
 
 returns-3 : tie.Need-returns-3
 returns-3 c =
@@ -41,8 +44,9 @@ returns-3 c =
     let start = read .before .before .before .before in
     let s = stateAt (start .args .m .now) in
     let n = start .args .ticks in
+    let x = start .args .x in
     let w = read .before-of .ensures in
-    (c .edges-in .ensures .0 ∙ (λ i. (edgesFrom (w .0 i) (w .1 .0 i) s n) .beyond), c .edges-in .ensures .1 ∙ (λ i. imageOf (appliedFrom (edgesFrom (w .0 i) (w .1 .0 i) s n) (w .1 .1 i) s)))
+    (c .edges-in .ensures .0 ∙ (λ i. (edgesFrom (w .0 i) (w .1 .0 i) s n) .beyond) ∙ beyond-since x n s, c .edges-in .ensures .1 ∙ (λ i. imageOf (appliedFrom (edgesFrom (w .0 i) (w .1 .0 i) s n) (w .1 .1 i) s)) ∙ ap imageOf (since x n s))
 
 pub edges-since-spec : {M : Type 1} → statement M
 edges-since-spec =
