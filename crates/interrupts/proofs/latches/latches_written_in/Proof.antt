@@ -1,5 +1,5 @@
 use borrow.Author.Needs.{needs}
-use Rattle.interrupts.proofs.Placed.{latches-at}
+use Rattle.image.proofs.AtPlaces.{latches-at}
 use Rattle.interrupts.proofs.latches.latches_written_in.Statement.{statement}
 use Rattle.interrupts.proofs.latches.latches_written_in.Tie as tie
 

@@ -1,5 +1,5 @@
 use borrow.Author.Needs.{needs}
-use Rattle.interrupts.proofs.Placed.{status-at, enspchk-at}
+use Rattle.image.proofs.AtPlaces.{status-at}
 use Rattle.interrupts.proofs.status.status_written_in.Statement.{statement}
 use Rattle.interrupts.proofs.status.status_written_in.Tie as tie
 
@@ -7,9 +7,10 @@ returns : tie.Need-returns
 returns c =
     let written = c .before .before in
     let unpacked = written .before in
-    let m = unpacked .before .before .before .args .m .now in
-    rw (status-at m, enspchk-at m, ← unpacked .status-of .ensures, ← written .status-written .ensures) (c .status-put .ensures)
+    let checked = unpacked .before .before in
+    let m = checked .before .before .args .m .now in
+    rw (status-at m, ← checked .enspchk .ensures, ← unpacked .status-of .ensures, ← written .status-written .ensures) (c .status-put .ensures)
 
 pub status-written-in-spec : {M : Type 1} → statement M
 status-written-in-spec =
-    tie.close (tie.spec (λ c. search needs) (λ c. search needs) (λ c κs. search needs) (λ c κs. search needs) (λ c κs. search needs) returns)
+    tie.close (tie.spec (λ c κs. search needs) (λ c. search needs) (λ c κs. search needs) (λ c κs. search needs) (λ c κs. search needs) returns)
