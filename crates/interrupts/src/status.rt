@@ -6,7 +6,7 @@ ghost use Rattle.rules.specs.StepA.{statusA};
 ghost use Rattle.rules.specs.StepD.{fifoConflict, pioReady, statusRaised, statusD};
 ghost use Rattle.rules.specs.declared.records.Event.the-variants.{Write, WordRead};
 ghost use Rattle.rules.specs.Changed.{withStatus};
-ghost use Rattle.image.specs.Image.{IsImage, imageOf, stateAt, registersAt, linesAt, transferAt};
+ghost use Rattle.image.specs.Image.{IsImage, imageOf, stateAt, registersAt};
 use image::bits::automatic_ack;
 use image::bits::enspchk;
 use image::bits::reqinit;

@@ -5,9 +5,7 @@ use mathlib.Core.Bool.{Bool, _&&_, cond}
 use lib.ListN.{getD}
 use Rattle.rules.specs.Numbers.{ones, even}
 use Rattle.rules.specs.Seen.{normal, driving, dataDriven, parityDriven}
-use Rattle.rules.specs.State.{Transfer, State}
-use Rattle.rules.specs.declared.registers.Registers.{Registers}
-use Rattle.rules.specs.declared.records.Lines.{Lines}
+use Rattle.rules.specs.State.{State}
 use Rattle.rules.specs.Answers.{answerBytes}
 use Rattle.image.specs.Image.{stateAt}
 use Rattle.image.specs.Layout.{offsetPlace}
