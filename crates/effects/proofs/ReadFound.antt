@@ -15,7 +15,7 @@ use Rattle.rules.specs.declared.map.Mapped.the-variants.{Present}
 use Rattle.rules.proofs.map.Register as register
 use Rattle.map.proofs.Offsets.{past, read-offset}
 use Rattle.writes.proofs.Arms.{other}
-use Rattle.writes.proofs.Names.{same-register, nothing-found}
+use Rattle.writes.proofs.StoringRegisters.{same-register, nothing-found}
 
 -- past the table nothing is found
 pub found-below : (o : ℕ) (r : Register) → readAt o ≡ Present r → o < 32

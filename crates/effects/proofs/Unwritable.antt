@@ -15,7 +15,7 @@ use Rattle.rules.specs.declared.map.Mapped.the-variants.{Present, Missing}
 use Rattle.rules.proofs.map.Register as register
 use Rattle.laws.proofs.Tables.{below, below-at}
 use Rattle.map.proofs.Offsets.{past}
-use Rattle.writes.specs.Found.{Written}
+use Rattle.writes.specs.WrittenRegister.{Written}
 
 -- the numbers of the registers that are only read
 abbrev unwritable : List ℕ

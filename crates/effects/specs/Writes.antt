@@ -16,7 +16,7 @@ use Rattle.rules.specs.declared.map.Register.{Register}
 use Rattle.rules.specs.declared.records.Event.the-variants.{Write, WordRead}
 use Rattle.rules.specs.Changed.{withRegisters, withStatus}
 use Rattle.rules.specs.Changed.{withHost, withScsi, withCounter, withOffset, withAck}
-use Rattle.writes.specs.Found.{Written}
+use Rattle.writes.specs.WrittenRegister.{Written}
 
 -- what is written is stored
 abbrev pub storing : ℕ → State → ℕ → State

@@ -4,7 +4,7 @@ ghost use Rattle.rules.specs.Map.{offsetOf};
 ghost use Rattle.rules.specs.declared.map.Register.the-variants.{SXFRCTL0, STCNT0, STCNT1, STCNT2, SCSITEST, DMACNTRL0, DMACNTRL1, STACK, TEST};
 ghost use Rattle.rules.specs.declared.records.Event.the-variants.{Write};
 ghost use Rattle.image.specs.Image.{IsImage, imageOf, stateAt};
-ghost use Rattle.writes.specs.Found.{Written};
+ghost use Rattle.writes.specs.WrittenRegister.{Written};
 ghost use Rattle.effects.specs.Acting.{Acts};
 ghost use Rattle.effects.specs.Writes.{Plain, channelCleared, counterCleared, hostCleared};
 use crate::Acted;

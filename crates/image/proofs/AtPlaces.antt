@@ -17,8 +17,8 @@ use Rattle.rules.specs.Reads.{scsibus}
 use Rattle.laws.proofs.Lists.{padded-length}
 use Rattle.laws.proofs.Bits.{one-below}
 use Rattle.stack.proofs.Places.{place-lt}
-use Rattle.image.specs.Image.{imageOf, stateAt, registersAt, linesAt, transferAt, IsImage}
-use Rattle.image.specs.Layout.{brstcntrlPlace, counterHighPlace, counterLowPlace, counterMiddlePlace, dmacntrl0Place, dmacntrl1Place, hostBytesPlace, hostCountPlace, identityPlace, imageSize, pointerPlace, scsiCountPlace, scsiseqPlace, simode0Place, simode1Place, stackBytesPlace, sxfrctl0Place, sxfrctl1Place}
+use Rattle.image.specs.Image.{imageOf, stateAt, statusOf, latchesOf, IsImage}
+use Rattle.image.specs.Layout.{brstcntrlPlace, counterHighPlace, counterLowPlace, counterMiddlePlace, dmacntrl0Place, dmacntrl1Place, hostBytesPlace, hostCountPlace, identityPlace, imageSize, latchesPlace, pointerPlace, scsiCountPlace, scsiseqPlace, simode0Place, simode1Place, stackBytesPlace, statusPlace, sxfrctl0Place, sxfrctl1Place}
 
 -- zeros read as 0, and so does what is past them
 zeros : (n i : ℕ) → getD (replicate n zero) i zero ≡ zero
@@ -113,6 +113,19 @@ module _ (s : State) (r : InRange s) where
   unfolding imageOf
   host-second = behind 1
 
+-- what holds of the image of every state holds of an array that is an image
+pub of-image : (f : List ℕ → List ℕ) (g : State → State) → ((s : State) → f (imageOf s) ≡ imageOf (g s)) → (m : List ℕ) → IsImage m → f m ≡ imageOf (g (stateAt m))
+of-image f g law m i = ap f (i .packed) ∙ law (stateAt m)
+
+-- the statuses and the latches, whatever the array
+pub status-at : (m : List ℕ) → (stateAt m) .status ≡ statusOf (getD m statusPlace 0)
+unfolding stateAt
+status-at m = refl
+
+pub latches-at : (m : List ℕ) → (stateAt m) .latches ≡ latchesOf (getD m latchesPlace 0)
+unfolding stateAt
+latches-at m = refl
+
 -- in an array
 module _ (m : List ℕ) (i : IsImage m) where
   held : (k : ℕ) {x : ℕ} → getD (imageOf (stateAt m)) k 0 ≡ x → getD m k 0 ≡ x
@@ -160,7 +173,7 @@ module _ (m : List ℕ) (i : IsImage m) where
   pub at-first : getD m hostBytesPlace 0 ≡ getD ((stateAt m) .transfer .host) 0 0
   at-first = held hostBytesPlace (host-first (stateAt m) (i .range))
 
-  pub at-second : getD m (hostBytesPlace + 1) 0 ≡ getD ((stateAt m) .transfer .host) sxfrctl0Place 0
+  pub at-second : getD m (hostBytesPlace + 1) 0 ≡ getD ((stateAt m) .transfer .host) 1 0
   at-second = held (hostBytesPlace + 1) (host-second (stateAt m) (i .range))
 
   pub at-brstcntrl : getD m brstcntrlPlace 0 ≡ (stateAt m) .registers .brstcntrl
@@ -184,7 +197,7 @@ module _ (m : List ℕ) (i : IsImage m) where
   pub parts-join : getD m dmacntrl1Place 0 + getD m pointerPlace 0 ≡ dmacntrl1Byte ((stateAt m) .registers .dmacntrl1) ((stateAt m) .stack .pointer)
   parts-join = omega (arith, at-dmacntrl1, at-pointer)
 
--- the stack stands at 36
+-- the stack
 abbrev pub wideAt : List ℕ → Bool
 wideAt m = (stateAt m) .registers .dmacntrl1 .enstk32
 

@@ -2,26 +2,23 @@
 use Prim.Native.Nat.{ℕ}
 use mathlib.Core.Path.{_≡_, refl}
 use mathlib.Core.Bool.{Bool, true, false, not, _&&_, false≢true}
-use mathlib.Core.List.{List}
 use lib.Dec.{ltb}
-use Rattle.rules.specs.Seen.{ackSeen}
 use Rattle.rules.specs.StepD.{statusD}
 use Rattle.rules.specs.declared.chip.Status.{Status}
-use Rattle.image.specs.Image.{stateAt, registersAt, linesAt, transferAt}
 
--- no ACK, or REQINIT is not set
-pub no-ack : (acks : ℕ) (seen : Bool) (t : Status) → not (ltb 0 acks) && not seen ≡ true → t ≡ statusD acks seen t
+-- no ACK, or REQINIT is not set, by the bits that the code read
+pub no-ack : (acks : ℕ) (t : Status) {k seen : Bool} → k ≡ seen → not (ltb 0 acks) && not k ≡ true → t ≡ statusD acks seen t
 unfolding statusD
-no-ack acks seen t h = rw h
+no-ack acks t e h = rw (← e, h)
 
 unset : (b c : Bool) → not c ≡ true → c ≡ b && c
 unset b true h = absurd (false≢true h)
 unset true false h = refl
 unset false false h = refl
 
-pub no-request : (acks : ℕ) (seen : Bool) (t : Status) → not (t .reqinit) ≡ true → t ≡ statusD acks seen t
+pub no-request : (acks : ℕ) (seen : Bool) {t : Status} {q : Bool} → q ≡ t .reqinit → not q ≡ true → t ≡ statusD acks seen t
 unfolding statusD
-no-request acks seen t h = rw (← unset (not (ltb 0 acks) && not seen) (t .reqinit) h)
+no-request acks seen {t} e h = rw (← unset (not (ltb 0 acks) && not seen) (t .reqinit) (rw (← e) h))
 
 abbrev pub withoutReqinit : Status → Status
 withoutReqinit t =
@@ -36,10 +33,6 @@ withoutReqinit t =
       fwerr = t .fwerr;
     }
 
-pub falls : (acks : ℕ) (seen : Bool) (t : Status) → not (ltb 0 acks) && not seen ≡ false → withoutReqinit t ≡ statusD acks seen t
+pub falls : (acks : ℕ) (t : Status) {k seen : Bool} → k ≡ seen → not (ltb 0 acks) && not k ≡ false → withoutReqinit t ≡ statusD acks seen t
 unfolding statusD
-falls acks seen t h = rw h
-
-pub ack-seen-at : (m : List ℕ) → ackSeen (stateAt m) ≡ ackSeen (stateAt m)
-unfolding stateAt
-ack-seen-at m = refl
+falls acks t e h = rw (← e, h)

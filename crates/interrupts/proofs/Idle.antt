@@ -19,8 +19,12 @@ idle false false true s h = record { unaccessed = refl; unacked = refl; held = r
 idle false false false true h = absurd (false≢true h)
 idle false false false false h = record { unaccessed = refl; unacked = refl; held = refl }
 
-pub status-idle : (accessed acked enspchk : Bool) (t : Status) → (not accessed && not acked) && (enspchk || not (t .scsiperr)) ≡ true → t ≡ statusA accessed acked enspchk t WordRead
+held-idle : (accessed acked enspchk : Bool) (t : Status) → (not accessed && not acked) && (enspchk || not (t .scsiperr)) ≡ true → t ≡ statusA accessed acked enspchk t WordRead
 unfolding statusA clears clearsError writes
-status-idle accessed acked enspchk t h =
+held-idle accessed acked enspchk t h =
     let i = idle accessed acked enspchk (t .scsiperr) h in
     rw (i .unaccessed, i .unacked, ← i .held)
+
+-- by the bits that the code read
+pub status-idle : (accessed acked : Bool) {p q enspchk : Bool} {t : Status} → p ≡ enspchk → q ≡ t .scsiperr → (not accessed && not acked) && (p || not q) ≡ true → t ≡ statusA accessed acked enspchk t WordRead
+status-idle accessed acked {p} {q} {enspchk} {t} e f h = held-idle accessed acked enspchk t (rw (← e, ← f) h)

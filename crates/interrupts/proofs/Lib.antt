@@ -1,5 +1,5 @@
 pub mod Falling
-pub mod Placed
 pub mod Raising
+pub mod StatusAndLatchBytes
 pub mod Steady
 pub mod Idle

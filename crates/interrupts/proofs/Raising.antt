@@ -4,13 +4,11 @@ use mathlib.Core.Path.{_≡_, refl}
 use mathlib.Core.Bool.{Bool, true, false, not, _&&_, _||_, false≢true}
 use mathlib.Core.List.{List}
 use lib.ListN.{getD}
-use Rattle.rules.specs.State.{Transfer, State}
+use Rattle.rules.specs.State.{State}
 use Rattle.rules.specs.Seen.{automatic, normal, matched, reqSeen, path}
 use Rattle.rules.specs.StepD.{fifoConflict, pioReady, statusRaised}
-use Rattle.rules.specs.declared.registers.Registers.{Registers}
-use Rattle.rules.specs.declared.records.Lines.{Lines}
 use Rattle.rules.specs.declared.chip.Status.{Status}
-use Rattle.image.specs.Image.{stateAt, registersAt, linesAt, transferAt, statusOf}
+use Rattle.image.specs.Image.{stateAt, registersAt, statusOf}
 use Rattle.image.specs.Layout.{statusPlace}
 
 abbrev pub raisedBy : Bool → Bool → Status → Status

@@ -17,7 +17,7 @@ use Rattle.rules.specs.declared.chip.Latches.{Latches}
 use Rattle.rules.specs.Changed.{withLatches}
 use Rattle.image.specs.Image.{imageOf, stateAt, statusOf, latchesOf}
 use Rattle.image.specs.Layout.{latchesPlace, simode0Place, simode1Place}
-use Rattle.interrupts.proofs.Placed.{latches-as}
+use Rattle.interrupts.proofs.StatusAndLatchBytes.{latches-as}
 use Rattle.interrupts.specs.Latching.{latchesFrom, anyEnable}
 
 -- the latches after D look at 350h and 351h only

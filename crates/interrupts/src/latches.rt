@@ -1,4 +1,4 @@
-// The latch byte, place 13.
+// The latch byte.
 ghost use mathlib.Core.Path.{_≡_};
 ghost use mathlib.Core.Bool.{false};
 ghost use Rattle.rules.specs.Interrupts.{latched};

@@ -1,4 +1,4 @@
-// The status byte, place 12.
+// The status byte.
 ghost use mathlib.Core.Path.{_≡_};
 ghost use mathlib.Core.Bool.{false};
 ghost use Rattle.rules.specs.Seen.{ackSeen};
@@ -6,20 +6,22 @@ ghost use Rattle.rules.specs.StepA.{statusA};
 ghost use Rattle.rules.specs.StepD.{fifoConflict, pioReady, statusRaised, statusD};
 ghost use Rattle.rules.specs.declared.records.Event.the-variants.{Write, WordRead};
 ghost use Rattle.rules.specs.Changed.{withStatus};
-ghost use Rattle.image.specs.Image.{IsImage, imageOf, stateAt, registersAt, linesAt, transferAt};
+ghost use Rattle.image.specs.Image.{IsImage, imageOf, stateAt, registersAt};
+use image::bits::automatic_ack;
+use image::bits::enspchk;
+use image::bits::reqinit;
+use image::bits::scsien;
+use image::bits::scsiperr;
 use image::bus::ack_seen;
 use image::bus::automatic;
 use image::bus::matched;
 use image::bus::normal;
 use image::bus::path;
+use image::bus::req_seen;
 use image::bytes::status_byte;
 use image::bytes::status_of;
-use image::layout::ACK;
 use image::layout::Image;
-use image::layout::LINES_CONTROL;
 use image::layout::STATUS;
-use image::layout::SXFRCTL0;
-use image::layout::SXFRCTL1;
 use rules::chip::Status;
 use rules::map::Register;
 
@@ -64,8 +66,8 @@ pub fn status_kept_in(m: &mut Image, accessed: bool, acked: bool)
     requires { ⌜ IsImage (now m) ⌝ }
     ensures { λ _. ⌜ now (m .exit) ≡ imageOf (withStatus (statusA accessed acked ((stateAt (now (m .entry))) .registers .sxfrctl1 .enspchk) ((stateAt (now (m .entry))) .status) WordRead) (stateAt (now (m .entry)))) ⌝ }
 {
-    let enspchk = (m[SXFRCTL1] >> 5) % 2 == 1;
-    let scsiperr = (m[STATUS] >> 4) % 2 == 1;
+    let enspchk = enspchk(m);
+    let scsiperr = scsiperr(m);
     if !accessed & !acked & (enspchk | !scsiperr) {
         return;
     }
@@ -78,7 +80,7 @@ pub fn status_written_in(m: &mut Image, offset: u8, value: u8)
     requires { ⌜ IsImage (now m) ⌝ }
     ensures { λ _. ⌜ now (m .exit) ≡ imageOf (withStatus (statusA false false ((stateAt (now (m .entry))) .registers .sxfrctl1 .enspchk) ((stateAt (now (m .entry))) .status) (Write offset value)) (stateAt (now (m .entry)))) ⌝ }
 {
-    let enspchk = (m[SXFRCTL1] >> 5) % 2 == 1;
+    let enspchk = enspchk(m);
     let t = status_written(enspchk, status_of(m[STATUS]), offset, value);
     status_put(m, t);
 }
@@ -88,7 +90,7 @@ pub fn fallen_in(m: &mut Image, acks: u8)
     requires { ⌜ IsImage (now m) ⌝ }
     ensures { λ _. ⌜ now (m .exit) ≡ imageOf (withStatus (statusD acks (ackSeen (stateAt (now (m .entry)))) ((stateAt (now (m .entry))) .status)) (stateAt (now (m .entry)))) ⌝ }
 {
-    if !((m[STATUS] >> 2) % 2 == 1) {
+    if !reqinit(m) {
         return;
     }
     let seen = ack_seen(m);
@@ -105,11 +107,7 @@ fn fifo_conflict(m: &Image) -> bool
     ensures { λ b. ⌜ b ≡ fifoConflict (registersAt (now (m .entry))) ⌝ }
 {
     if normal(m) {
-        if (m[SXFRCTL0] >> 7) % 2 == 1 {
-            !path(m)
-        } else {
-            false
-        }
+        if scsien(m) { !path(m) } else { false }
     } else {
         false
     }
@@ -120,7 +118,7 @@ fn pio_ready(m: &Image) -> bool
     ensures { λ b. ⌜ b ≡ pioReady (stateAt (now (m .entry))) ⌝ }
 {
     if automatic(m) {
-        matched(m) & ((m[LINES_CONTROL] >> 1) % 2 == 1) & !(m[ACK] == 1)
+        matched(m) & req_seen(m) & !automatic_ack(m)
     } else {
         false
     }

@@ -7,6 +7,10 @@ ghost use Rattle.rules.specs.Answers.{answerBytes, controlDriven};
 ghost use Rattle.image.specs.Image.{IsImage, stateAt, registersAt, transferAt};
 ghost use Rattle.reads.specs.Answering.{answerWith};
 use crate::interrupts::irq;
+use image::bits::atno;
+use image::bits::bsyo;
+use image::bits::scsirsto;
+use image::bits::selo;
 use image::bus::ack_driven;
 use image::bus::driving;
 use image::bus::normal;
@@ -16,8 +20,6 @@ use image::layout::LAST;
 use image::layout::OFFSET;
 use image::layout::SCSI_COUNT;
 use image::layout::SCSIDAT;
-use image::layout::SCSISEQ;
-use image::layout::SCSISIG;
 use laws::byte_of;
 use parity::parity_for;
 use rules::codes::Code;
@@ -47,9 +49,9 @@ fn control_driven(m: &Image) -> u8
     ensures { λ b. ⌜ b ≡ controlDriven (stateAt (now (m .entry))) ⌝ }
 {
     let acked = ack_driven(m);
-    let atn = (m[SCSISIG] >> 4) % 2 == 1;
-    let sel = (m[SCSISIG] >> 3) % 2 == 1;
-    let bsy = (m[SCSISIG] >> 2) % 2 == 1;
+    let atn = atno(m);
+    let sel = selo(m);
+    let bsy = bsyo(m);
     byte_of(false, false, false, atn, sel, bsy, false, acked)
 }
 
@@ -63,7 +65,7 @@ pub fn answer_of(m: &Image, code: Code, value: u16, moves: u8, acks: u8, sent: [
     let driven = byte_driven(m, driving);
     let parity = parity_of(driving, driven);
     let control = control_driven(m);
-    let rst = (m[SCSISEQ] >> 0) % 2 == 1;
+    let rst = scsirsto(m);
     let a = Answer {
         code: code,
         irq: irq,

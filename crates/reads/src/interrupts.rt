@@ -3,18 +3,19 @@ ghost use mathlib.Core.Path.{_≡_};
 ghost use mathlib.Core.Bool.{_&&_};
 ghost use Rattle.rules.specs.Interrupts.{phasemis, instat, irq, anyLatch};
 ghost use Rattle.image.specs.Image.{stateAt};
+use image::bits::enphasemis;
+use image::bits::inten;
+use image::bits::reqinit;
+use image::bits::swint;
 use image::bus::mismatched;
-use image::layout::DMACNTRL0;
 use image::layout::Image;
 use image::layout::LATCHES;
-use image::layout::SIMODE1;
-use image::layout::STATUS;
 
 // "PHASEMIS is live: connected, not matched, REQINIT.": the lines are looked at only where REQINIT is set.
 pub fn phasemis(m: &Image) -> bool
     ensures { λ b. ⌜ b ≡ phasemis (stateAt (now (m .entry))) ⌝ }
 {
-    let reqinit = (m[STATUS] >> 2) % 2 == 1;
+    let reqinit = reqinit(m);
     if reqinit { mismatched(m) } else { false }
 }
 
@@ -22,7 +23,7 @@ pub fn phasemis(m: &Image) -> bool
 fn enabled_phasemis(m: &Image) -> bool
     ensures { λ b. ⌜ b ≡ phasemis (stateAt (now (m .entry))) && (stateAt (now (m .entry))) .registers .simode1 .enphasemis ⌝ }
 {
-    let enphasemis = (m[SIMODE1] >> 4) % 2 == 1;
+    let enphasemis = enphasemis(m);
     if enphasemis { phasemis(m) } else { false }
 }
 
@@ -37,7 +38,7 @@ fn any_latch(m: &Image) -> bool
 pub fn instat(m: &Image) -> bool
     ensures { λ b. ⌜ b ≡ instat (stateAt (now (m .entry))) ⌝ }
 {
-    let at_once = any_latch(m) | ((m[DMACNTRL0] >> 0) % 2 == 1);
+    let at_once = any_latch(m) | swint(m);
     if at_once { true } else { enabled_phasemis(m) }
 }
 
@@ -45,6 +46,6 @@ pub fn instat(m: &Image) -> bool
 pub fn irq(m: &Image) -> bool
     ensures { λ b. ⌜ b ≡ irq (stateAt (now (m .entry))) ⌝ }
 {
-    let inten = (m[DMACNTRL0] >> 2) % 2 == 1;
+    let inten = inten(m);
     if inten { instat(m) } else { false }
 }

@@ -2,16 +2,30 @@
 ghost use mathlib.Core.Path.{_≡_};
 ghost use Prim.Native.Nat.{_<_};
 ghost use lib.ListN.{getD};
+ghost use Rattle.rules.specs.Seen.{atnSeen};
 ghost use Rattle.rules.specs.Reads.{scsisigi, sstat0, sstat1, sstat2, sstat3, sstat4, dmastat, idBytes};
 ghost use Rattle.rules.specs.Stack.{stackPlace, stackByte};
 ghost use Rattle.image.specs.Image.{IsImage, stateAt};
 use crate::interrupts::instat;
 use crate::interrupts::phasemis;
+use image::bits::atno;
+use image::bits::busfree;
+use image::bits::enstk32;
+use image::bits::fwerr;
+use image::bits::phasechg;
+use image::bits::reqinit;
+use image::bits::scsiperr;
+use image::bits::scsirsti;
+use image::bits::spiordy;
+use image::bits::syncerr;
+use image::bits::write;
 use image::bus::ack_seen;
 use image::bus::bsy_seen;
+use image::bus::cd_seen;
+use image::bus::io_seen;
+use image::bus::msg_seen;
+use image::bus::req_seen;
 use image::bus::sel_seen;
-use image::layout::DMACNTRL0;
-use image::layout::DMACNTRL1;
 use image::layout::HOST_COUNT;
 use image::layout::IDENTITY;
 use image::layout::Image;
@@ -19,10 +33,15 @@ use image::layout::LINES_CONTROL;
 use image::layout::OFFSET;
 use image::layout::POINTER;
 use image::layout::SCSI_COUNT;
-use image::layout::SCSISIG;
 use image::layout::STACK_BYTES;
-use image::layout::STATUS;
 use laws::byte_of;
+
+// ATN is driven by others or by the chip.
+fn atn_seen(m: &Image) -> bool
+    ensures { λ b. ⌜ b ≡ atnSeen (stateAt (now (m .entry))) ⌝ }
+{
+    ((m[LINES_CONTROL] >> 4) % 2 == 1) | atno(m)
+}
 
 // 343h: the lines seen.
 pub fn scsisigi(m: &Image) -> u8
@@ -31,11 +50,11 @@ pub fn scsisigi(m: &Image) -> u8
     let sel = sel_seen(m);
     let bsy = bsy_seen(m);
     let acked = ack_seen(m);
-    let cd = (m[LINES_CONTROL] >> 7) % 2 == 1;
-    let io = (m[LINES_CONTROL] >> 6) % 2 == 1;
-    let msg = (m[LINES_CONTROL] >> 5) % 2 == 1;
-    let atn = ((m[LINES_CONTROL] >> 4) % 2 == 1) | ((m[SCSISIG] >> 4) % 2 == 1);
-    let req = (m[LINES_CONTROL] >> 1) % 2 == 1;
+    let cd = cd_seen(m);
+    let io = io_seen(m);
+    let msg = msg_seen(m);
+    let atn = atn_seen(m);
+    let req = req_seen(m);
     byte_of(cd, io, msg, atn, sel, bsy, req, acked)
 }
 
@@ -43,7 +62,7 @@ pub fn scsisigi(m: &Image) -> u8
 pub fn sstat0(m: &Image) -> u8
     ensures { λ b. ⌜ b ≡ sstat0 (stateAt (now (m .entry))) ⌝ }
 {
-    let spiordy = (m[STATUS] >> 7) % 2 == 1;
+    let spiordy = spiordy(m);
     byte_of(false, false, false, false, false, false, spiordy, false)
 }
 
@@ -52,11 +71,11 @@ pub fn sstat1(m: &Image) -> u8
     ensures { λ b. ⌜ b ≡ sstat1 (stateAt (now (m .entry))) ⌝ }
 {
     let phasemis = phasemis(m);
-    let scsirsti = (m[STATUS] >> 6) % 2 == 1;
-    let busfree = (m[STATUS] >> 5) % 2 == 1;
-    let scsiperr = (m[STATUS] >> 4) % 2 == 1;
-    let phasechg = (m[STATUS] >> 3) % 2 == 1;
-    let reqinit = (m[STATUS] >> 2) % 2 == 1;
+    let scsirsti = scsirsti(m);
+    let busfree = busfree(m);
+    let scsiperr = scsiperr(m);
+    let phasechg = phasechg(m);
+    let reqinit = reqinit(m);
     byte_of(
         false,
         false,
@@ -101,8 +120,8 @@ pub fn sstat3(m: &Image) -> u8
 pub fn sstat4(m: &Image) -> u8
     ensures { λ b. ⌜ b ≡ sstat4 (stateAt (now (m .entry))) ⌝ }
 {
-    let syncerr = (m[STATUS] >> 1) % 2 == 1;
-    let fwerr = (m[STATUS] >> 0) % 2 == 1;
+    let syncerr = syncerr(m);
+    let fwerr = fwerr(m);
     byte_of(false, false, false, false, false, syncerr, fwerr, false)
 }
 
@@ -113,7 +132,7 @@ pub fn dmastat(m: &Image) -> u8
 {
     let instat = instat(m);
     let count = m[HOST_COUNT];
-    let write = (m[DMACNTRL0] >> 3) % 2 == 1;
+    let write = write(m);
     byte_of(
         false,
         !write & (2 <= count),
@@ -130,12 +149,12 @@ pub fn dmastat(m: &Image) -> u8
 fn stack_place(m: &Image) -> u8
     ensures { λ r. ⌜ r ≡ stackPlace ((stateAt (now (m .entry))) .registers .dmacntrl1 .enstk32) ((stateAt (now (m .entry))) .stack) ⌝ }
 {
-    let enstk32 = (m[DMACNTRL1] >> 6) % 2 == 1;
+    let enstk32 = enstk32(m);
     let pointer = m[POINTER];
     if enstk32 { pointer % 32 } else { pointer % 16 }
 }
 
-// 35Dh: the stack stands at 36.
+// 35Dh
 pub fn stack_byte(m: &Image) -> u8
     ensures { λ r. ⌜ r ≡ stackByte ((stateAt (now (m .entry))) .registers .dmacntrl1 .enstk32) ((stateAt (now (m .entry))) .stack) ⌝ }
 {

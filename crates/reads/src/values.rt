@@ -88,5 +88,5 @@ pub fn oldest_word(m: &Image) -> u16
     requires { ⌜ IsImage (now m) ⌝ }
     ensures { λ r. ⌜ r ≡ getD ((stateAt (now (m .entry))) .transfer .host) 0 0 + 256 * getD ((stateAt (now (m .entry))) .transfer .host) 1 0 ⌝ }
 {
-    word(m[HOST_BYTES], m[69])
+    word(m[HOST_BYTES], m[HOST_BYTES + 1])
 }

@@ -1,5 +1,5 @@
 pub mod Arms
-pub mod Kept
-pub mod Names
-pub mod Places
-pub mod Stacked
+pub mod LinesAndIdentity
+pub mod RegisterStores
+pub mod StackStores
+pub mod StoringRegisters

@@ -5,7 +5,7 @@ ghost use Prim.Native.Nat.{_+_, _%_};
 ghost use Rattle.rules.specs.Stack.{stackSize, stackRead, stackWritten, pointed};
 ghost use Rattle.rules.specs.Changed.{withStack};
 ghost use Rattle.image.specs.Image.{IsImage, imageOf, stateAt};
-use image::layout::DMACNTRL1;
+use image::bits::enstk32;
 use image::layout::Image;
 use image::layout::POINTER;
 use image::layout::STACK_BYTES;
@@ -30,7 +30,7 @@ pub fn pushed(m: &mut Image, value: u8)
     requires { ⌜ IsImage (now m) ⌝ }
     ensures { λ _. ⌜ now (m .exit) ≡ imageOf (withStack (stackWritten ((stateAt (now (m .entry))) .registers .dmacntrl1 .enstk32) value ((stateAt (now (m .entry))) .stack)) (stateAt (now (m .entry)))) ⌝ }
 {
-    let enstk32 = (m[DMACNTRL1] >> 6) % 2 == 1;
+    let enstk32 = enstk32(m);
     let pointer = m[POINTER];
     let at = place_of(enstk32, pointer) as usize;
     let next = next_of(enstk32, pointer);
@@ -43,7 +43,7 @@ pub fn popped(m: &mut Image)
     requires { ⌜ IsImage (now m) ⌝ }
     ensures { λ _. ⌜ now (m .exit) ≡ imageOf (withStack (stackRead ((stateAt (now (m .entry))) .registers .dmacntrl1 .enstk32) ((stateAt (now (m .entry))) .stack)) (stateAt (now (m .entry)))) ⌝ }
 {
-    let enstk32 = (m[DMACNTRL1] >> 6) % 2 == 1;
+    let enstk32 = enstk32(m);
     let pointer = m[POINTER];
     m[POINTER] = next_of(enstk32, pointer);
 }

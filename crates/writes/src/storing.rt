@@ -8,7 +8,8 @@ ghost use Rattle.rules.specs.StepA.{registersA, withAtn};
 ghost use Rattle.rules.specs.declared.records.Event.the-variants.{Write};
 ghost use Rattle.rules.specs.Changed.{withRegisters};
 ghost use Rattle.image.specs.Image.{IsImage, imageOf, stateAt, scsisigByte};
-ghost use Rattle.writes.specs.Found.{Written};
+ghost use Rattle.writes.specs.WrittenRegister.{Written};
+use image::bits::atno;
 use image::bytes::scsisig_byte;
 use image::layout::BRSTCNTRL;
 use image::layout::DMACNTRL0;
@@ -60,10 +61,7 @@ pub fn stored(m: &mut Image, register: Register, value: u8)
         Register::SCSISEQ => m[SCSISEQ] = scsiseq_byte(scsiseq_of(value)),
         Register::SXFRCTL0 => m[SXFRCTL0] = sxfrctl0_byte(sxfrctl0_of(value)),
         Register::SXFRCTL1 => m[SXFRCTL1] = sxfrctl1_byte(sxfrctl1_of(value)),
-        Register::SCSISIGO => m[SCSISIG] = scsisig_byte(scsisig_of(
-            (m[SCSISIG] >> 4) % 2 == 1,
-            value,
-        )),
+        Register::SCSISIGO => m[SCSISIG] = scsisig_byte(scsisig_of(atno(m), value)),
         Register::SCSIRATE => m[SCSIRATE] = value % 128,
         Register::SCSIID => m[SCSIID] = (value >> 4) % 8 * 16 + value % 8,
         Register::SCSIDAT => m[SCSIDAT] = value,

@@ -5,7 +5,8 @@ use borrow.Author.Needs.{needs}
 use lib.ListN.{set, getD}
 use Rattle.rules.specs.State.{State}
 use Rattle.rules.specs.Changed.{withIdentity}
-use Rattle.writes.proofs.Places.{of-image, identity-below, identity-turned}
+use Rattle.image.proofs.AtPlaces.{of-image, at-identity}
+use Rattle.writes.proofs.LinesAndIdentity.{identity-turned}
 use Rattle.image.specs.Layout.{identityPlace}
 use Rattle.writes.proofs.identity_turned.Statement.{statement}
 use Rattle.writes.proofs.identity_turned.Tie as tie
@@ -13,7 +14,7 @@ use Rattle.writes.proofs.identity_turned.Tie as tie
 add-m : tie.Need-add-m
 add-m c =
     let a = c .before in
-    omega (arith, identity-below (a .args .m .now) (a .pre))
+    omega (arith, at-identity (a .args .m .now) (a .pre))
 
 returns : tie.Need-returns
 returns c =

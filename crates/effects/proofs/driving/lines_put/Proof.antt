@@ -3,7 +3,8 @@ use mathlib.Core.Path.{_≡_, _∙_}
 use lib.ListN.{set}
 use Rattle.rules.specs.Records.{linesOf, payloadOf}
 use Rattle.rules.specs.Changed.{withLines}
-use Rattle.writes.proofs.Places.{of-image, withLineBytes, lines-image}
+use Rattle.image.proofs.AtPlaces.{of-image}
+use Rattle.writes.proofs.LinesAndIdentity.{withLineBytes, lines-image}
 use Rattle.image.specs.Layout.{controlPlace, dataPlace, upperPlace}
 use Rattle.effects.proofs.LineBits.{line-byte, line-upper, line-control}
 use Rattle.effects.proofs.driving.lines_put.Statement.{statement}

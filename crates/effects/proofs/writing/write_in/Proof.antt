@@ -6,7 +6,7 @@ use Rattle.rules.specs.declared.map.Mapped.the-variants.{Missing}
 use Rattle.rules.specs.declared.records.Event.the-variants.{Write}
 use Rattle.image.specs.Image.{stateAt}
 use Rattle.map.proofs.Offsets.{written-offset}
-use Rattle.writes.proofs.Names.{found-written}
+use Rattle.writes.proofs.StoringRegisters.{found-written}
 use Rattle.effects.proofs.Endings.{acts-refused}
 use Rattle.effects.proofs.WriteCodes.{absent}
 use Rattle.effects.proofs.writing.write_in.Statement.{statement}

@@ -4,7 +4,8 @@ use borrow.Author.Needs.{needs}
 use Rattle.rules.specs.Registers.{simode0Of, simode1Of}
 use Rattle.image.specs.Image.{statusOf, latchesOf}
 use Rattle.image.specs.Layout.{latchesPlace, simode0Place, simode1Place}
-use Rattle.interrupts.proofs.Placed.{latches-left, latches-at}
+use Rattle.image.proofs.AtPlaces.{latches-at}
+use Rattle.interrupts.proofs.StatusAndLatchBytes.{latches-left}
 use Rattle.interrupts.proofs.Steady.{latches-masked, latches-same, latches-from-at, latches-made}
 use Rattle.interrupts.proofs.latches.latched_in.Statement.{statement}
 use Rattle.interrupts.proofs.latches.latched_in.Tie as tie

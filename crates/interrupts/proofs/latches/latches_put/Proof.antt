@@ -1,5 +1,5 @@
 use borrow.Author.Needs.{needs}
-use Rattle.interrupts.proofs.Placed.{latches-placed}
+use Rattle.interrupts.proofs.StatusAndLatchBytes.{latches-placed}
 use Rattle.interrupts.proofs.latches.latches_put.Statement.{statement}
 use Rattle.interrupts.proofs.latches.latches_put.Tie as tie
 

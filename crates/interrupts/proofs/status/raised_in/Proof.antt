@@ -1,7 +1,8 @@
 use mathlib.Core.Path.{refl, sym, _∙_}
 use borrow.Author.Needs.{needs}
-use Rattle.image.specs.Image.{stateAt, registersAt, linesAt, transferAt}
-use Rattle.interrupts.proofs.Placed.{status-left, status-at, status-as}
+use Rattle.image.specs.Image.{stateAt}
+use Rattle.image.proofs.AtPlaces.{status-at}
+use Rattle.interrupts.proofs.StatusAndLatchBytes.{status-left, status-as}
 use Rattle.interrupts.proofs.Raising.{no-conflict, raised-at}
 use Rattle.interrupts.proofs.status.raised_in.Statement.{statement}
 use Rattle.interrupts.proofs.status.raised_in.Tie as tie

@@ -1,5 +1,5 @@
 use borrow.Author.Needs.{needs}
-use Rattle.interrupts.proofs.Placed.{status-placed}
+use Rattle.interrupts.proofs.StatusAndLatchBytes.{status-placed}
 use Rattle.interrupts.proofs.status.status_put.Statement.{statement}
 use Rattle.interrupts.proofs.status.status_put.Tie as tie
 

@@ -1,5 +1,4 @@
-use mathlib.Core.Path.{_≡_, refl}
-use mathlib.Core.Bool.{Bool, true, false, not, _&&_}
+use mathlib.Core.Bool.{not, _&&_, and-true}
 use borrow.Author.Needs.{needs}
 use lib.Dec.{eqb}
 use Rattle.rules.specs.Numbers.{bit}
@@ -7,10 +6,6 @@ use Rattle.rules.specs.Events.{writes, valueOf}
 use Rattle.rules.specs.StepA.{statusA, clears, clearsError}
 use Rattle.interrupts.proofs.status.status_written.Statement.{statement}
 use Rattle.interrupts.proofs.status.status_written.Tie as tie
-
-and-true : (b : Bool) → (b && true) ≡ b
-and-true true = refl
-and-true false = refl
 
 returns : tie.Need-returns
 unfolding statusA clears clearsError writes valueOf

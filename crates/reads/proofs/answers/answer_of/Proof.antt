@@ -3,14 +3,12 @@ use Prim.Native.Nat.{ℕ}
 use mathlib.Core.Path.{_≡_, ap, _∙_}
 use mathlib.Core.Bool.{Bool, _&&_, cond}
 use lib.ListN.{getD}
-use Rattle.rules.specs.Numbers.{bit, ones, even}
+use Rattle.rules.specs.Numbers.{ones, even}
 use Rattle.rules.specs.Seen.{normal, driving, dataDriven, parityDriven}
-use Rattle.rules.specs.State.{Transfer, State}
-use Rattle.rules.specs.declared.registers.Registers.{Registers}
-use Rattle.rules.specs.declared.records.Lines.{Lines}
+use Rattle.rules.specs.State.{State}
 use Rattle.rules.specs.Answers.{answerBytes}
 use Rattle.image.specs.Image.{stateAt}
-use Rattle.image.specs.Layout.{offsetPlace, scsiseqPlace}
+use Rattle.image.specs.Layout.{offsetPlace}
 use Rattle.reads.specs.Answering.{answerWith}
 use Rattle.image.proofs.AtPlaces.{at-scsi, at-host}
 use Rattle.reads.proofs.answers.answer_of.Statement.{statement}
@@ -29,7 +27,8 @@ parity-by s e f h = rw (← e, ← f) h
 returns : tie.Need-returns
 unfolding answerWith stateAt
 returns c =
-    let control = c .before .before .before .before .before in
+    let reset = c .before .before .before .before in
+    let control = reset .before in
     let parity = control .before in
     let byte = parity .before in
     let judged = byte .before in
@@ -47,7 +46,7 @@ returns c =
       acks = s .args .acks;
       moves = s .args .moves;
       driving = drives i;
-      rst = bit (getD m scsiseqPlace 0) 0;
+      rst = reset .scsirsto .ensures i;
       parity = parity-by (stateAt m) drives driven (parity .parity-of .ensures) i;
       value = s .args .value;
       control = control .control-driven .ensures i;
@@ -59,4 +58,4 @@ returns c =
     })
 
 pub answer-of-spec : {M : Type 1} → statement M
-answer-of-spec = tie.close (tie.spec (λ c κs. search needs) (λ c κs. search needs) (λ c κs. search needs) (λ c κs. search needs) (λ c κs. search needs) (λ c. search needs) (λ c. search needs) (λ c. search needs) (λ c. search needs) (λ c κs. search needs) returns)
+answer-of-spec = tie.close (tie.spec (λ c κs. search needs) (λ c κs. search needs) (λ c κs. search needs) (λ c κs. search needs) (λ c κs. search needs) (λ c κs. search needs) (λ c. search needs) (λ c. search needs) (λ c. search needs) (λ c κs. search needs) returns)

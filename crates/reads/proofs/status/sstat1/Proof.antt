@@ -1,20 +1,22 @@
 use borrow.Author.Needs.{needs}
 use mathlib.Core.Path.{_∙_}
 use mathlib.Core.Bool.{false}
-use lib.ListN.{getD}
-use Rattle.rules.specs.Numbers.{bit, byteOf}
+use Rattle.rules.specs.Numbers.{byteOf}
 use Rattle.rules.specs.Reads.{sstat1}
-use Rattle.image.specs.Image.{stateAt}
-use Rattle.image.specs.Layout.{statusPlace}
 use Rattle.reads.proofs.status.sstat1.Statement.{statement}
 use Rattle.reads.proofs.status.sstat1.Tie as tie
 
 returns : tie.Need-returns
-unfolding sstat1 stateAt
+unfolding sstat1
 returns c =
-    let v = getD (c .before .before .before .before .before .before .before .args .m .now) statusPlace 0 in
+    let request = c .before in
+    let change = request .before in
+    let error = change .before in
+    let free = error .before in
+    let reset = free .before in
     c .byte-of .ensures
-    ∙ (λ i. byteOf false false (bit v 6) (c .before .before .before .before .before .before .phasemis .ensures i) (bit v 5) (bit v 4) (bit v 3) (bit v 2))
+    ∙ (λ i.
+    byteOf false false (reset .scsirsti .ensures i) (reset .before .phasemis .ensures i) (free .busfree .ensures i) (error .scsiperr .ensures i) (change .phasechg .ensures i) (request .reqinit .ensures i))
 
 pub sstat1-spec : {M : Type 1} → statement M
-sstat1-spec = tie.close (tie.spec (λ c κs. search needs) (λ c. search needs) (λ c. search needs) (λ c. search needs) (λ c. search needs) (λ c. search needs) (λ c κs. search needs) returns)
+sstat1-spec = tie.close (tie.spec (λ c κs. search needs) (λ c κs. search needs) (λ c κs. search needs) (λ c κs. search needs) (λ c κs. search needs) (λ c κs. search needs) (λ c κs. search needs) returns)

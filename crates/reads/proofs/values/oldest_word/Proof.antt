@@ -12,4 +12,4 @@ returns c =
     c .word .ensures ∙ ap₂ (λ (a b : ℕ). a + 256 * b) (at-first m i) (at-second m i)
 
 pub oldest-word-spec : {M : Type 1} → statement M
-oldest-word-spec = tie.close (tie.spec (λ c. search needs) (λ c. search needs) (λ c κs. search needs) returns)
+oldest-word-spec = tie.close (tie.spec (λ c. search needs) (λ c. search needs) (λ c. search needs) (λ c κs. search needs) returns)

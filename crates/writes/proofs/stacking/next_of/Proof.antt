@@ -3,12 +3,12 @@ use mathlib.Core.Path.{ap, _∙_}
 use native.Mathlib.Omega.{arith}
 use borrow.Author.Needs.{needs}
 use Rattle.rules.specs.Stack.{stackSize}
-use Rattle.writes.proofs.Stacked.{place-below}
+use Rattle.writes.proofs.StackStores.{place-below}
 use Rattle.writes.proofs.stacking.next_of.Statement.{statement}
 use Rattle.writes.proofs.stacking.next_of.Tie as tie
 
 add-place-of : tie.Need-add-place-of
-add-place-of c = omega (arith, place-below (c .before .args .enstk32) (c .before .args .pointer), c .place-of .ensures)
+add-place-of c = omega (arith, place-below (c .before .args .enstk32) _ (c .place-of .ensures))
 
 returns : tie.Need-returns
 returns c =

@@ -1,5 +1,5 @@
 use borrow.Author.Needs.{needs}
-use Rattle.writes.proofs.Stacked.{pointed-image}
+use Rattle.writes.proofs.StackStores.{pointed-image}
 use Rattle.writes.proofs.stacking.pointed.Statement.{statement}
 use Rattle.writes.proofs.stacking.pointed.Tie as tie
 

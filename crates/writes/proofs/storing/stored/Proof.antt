@@ -7,8 +7,8 @@ use Rattle.rules.specs.declared.map.Mapped.the-variants.{Present}
 use Rattle.rules.specs.declared.records.Event.the-variants.{Write}
 use Rattle.image.specs.Image.{stateAt, scsisigByte}
 use Rattle.writes.proofs.Arms.{other}
-use Rattle.writes.proofs.Names.{plain, unstored, same-register}
-use Rattle.writes.proofs.Kept.{put-scsiseq, put-sxfrctl0, put-sxfrctl1, put-scsisig, put-scsirate, put-scsiid, put-scsidat, put-clrsint1, put-simode0, put-simode1, put-dmacntrl0, put-dmacntrl1, put-brstcntrl, unchanged}
+use Rattle.writes.proofs.StoringRegisters.{plain, unstored, same-register}
+use Rattle.writes.proofs.RegisterStores.{put-scsiseq, put-sxfrctl0, put-sxfrctl1, put-scsisigo, put-scsirate, put-scsiid, put-scsidat, put-clrsint1, put-simode0, put-simode1, put-dmacntrl0, put-dmacntrl1, put-brstcntrl, unchanged}
 use Rattle.writes.proofs.storing.stored.Statement.{statement}
 use Rattle.writes.proofs.storing.stored.Tie as tie
 
@@ -29,8 +29,9 @@ returns-3 c =
 
 returns-4 : tie.Need-returns-4
 returns-4 c =
-    let a = c .before .before .before .before .before in
-    rw (c .before .before .before .enum-told4 .given .1, c .scsisig-byte .ensures ∙ ap scsisigByte (c .before .scsisig-of .ensures)) (put-scsisig (a .args .value) (a .args .m .now) (a .pre .0))
+    let asked = c .before .before in
+    let a = asked .before .before .before .before in
+    rw (asked .before .before .enum-told4 .given .1, c .scsisig-byte .ensures ∙ ap scsisigByte (c .before .scsisig-of .ensures)) (put-scsisigo (a .args .value) (a .args .m .now) (a .pre .0) (asked .atno .ensures))
 
 returns-5 : tie.Need-returns-5
 returns-5 c =

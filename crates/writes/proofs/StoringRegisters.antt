@@ -19,7 +19,7 @@ use Rattle.rules.specs.declared.map.Mapped.the-variants.{Present, Missing}
 use Rattle.rules.specs.declared.records.Event.the-variants.{Write}
 use Rattle.rules.proofs.map.Register as register
 use Rattle.map.proofs.Offsets.{written-offset}
-use Rattle.writes.specs.Found.{Written}
+use Rattle.writes.specs.WrittenRegister.{Written}
 
 -- the numbers of the registers that store nothing
 abbrev pub plain : List ℕ

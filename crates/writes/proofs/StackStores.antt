@@ -7,7 +7,7 @@ use native.Mathlib.Omega.{arith}
 use native.Mathlib.Nat.{zero-add, suc-add}
 use lib.ListN.{length, set, getD, length-append}
 use lib.Seq.{set-append-left}
-use Rattle.rules.specs.Numbers.{bit, padded}
+use Rattle.rules.specs.Numbers.{padded}
 use Rattle.rules.specs.Stack.{stackSize, stackPlace, pointerAfter, stackRead, stackWritten, pointed}
 use Rattle.rules.specs.State.{State}
 use Rattle.rules.specs.Ranges.{InRange}
@@ -16,7 +16,8 @@ use Rattle.laws.proofs.Lists.{padded-length}
 use Rattle.stack.proofs.Places.{place-lt}
 use Rattle.rules.specs.Changed.{withStack}
 use Rattle.image.specs.Image.{IsImage, imageOf, headOf, stateAt}
-use Rattle.image.specs.Layout.{dmacntrl1Place, pointerPlace, stackBytesPlace}
+use Rattle.image.specs.Layout.{pointerPlace, scsiBytesPlace, stackBytesPlace}
+use Rattle.image.proofs.AtPlaces.{wideAt}
 
 -- a store past the first part
 set-append-add : (xs ys : List ℕ) (n a : ℕ) → set (xs ++ ys) (length xs + n) a ≡ xs ++ set ys n a
@@ -32,7 +33,7 @@ set-middle p b t k i a e lt =
     ∙ ap (λ (r : List ℕ). r ++ t) (ap (λ (x : ℕ). set (p ++ b) x a) e ∙ set-append-add p b i a)
 
 -- the stack comes after the 28 bytes and the SCSI FIFO
-before-stack : (h q : List ℕ) → length h ≡ 28 → length q ≡ 8 → (i : ℕ) → stackBytesPlace + i ≡ length (h ++ q) + i
+before-stack : (h q : List ℕ) → length h ≡ scsiBytesPlace → length q ≡ 8 → (i : ℕ) → stackBytesPlace + i ≡ length (h ++ q) + i
 before-stack h q e f i = omega (arith, length-append h q, e, f)
 
 abbrev pub stackOf : List ℕ → ℕ → Stack
@@ -56,10 +57,7 @@ both-image s r i a p lt =
     ap (λ (m : List ℕ). set m pointerPlace p) (byte-image s r i a lt)
     ∙ pointer-image p (withStack (stackOf (set (s .stack .bytes) i a) (s .stack .pointer)) s)
 
--- ENSTK32 and the pointer as an image has them
-abbrev pub wideAt : List ℕ → Bool
-wideAt m = bit (getD m dmacntrl1Place 0) 6
-
+-- the pointer as an image has it
 abbrev pub pointerAt : List ℕ → ℕ
 pointerAt m = getD m pointerPlace 0
 
@@ -69,40 +67,42 @@ placeOf w p = p % stackSize w
 abbrev pub nextOf : Bool → ℕ → ℕ
 nextOf w p = (p % stackSize w + 1) % stackSize w
 
-abbrev enstk32At : List ℕ → Bool
-enstk32At m = (stateAt m) .registers .dmacntrl1 .enstk32
+below : (w : Bool) (p : ℕ) → placeOf w p < 32
+below true p = omega arith
+below false p = omega arith
 
-pub place-below : (w : Bool) (p : ℕ) → placeOf w p < 32
-place-below true p = omega arith
-place-below false p = omega arith
+pub place-below : {k : ℕ} (w : Bool) (p : ℕ) → k ≡ placeOf w p → k < 32
+place-below w p e = rw e (below w p)
 
-place-at : (m : List ℕ) → placeOf (wideAt m) (pointerAt m) ≡ stackPlace (enstk32At m) ((stateAt m) .stack)
+place-at : (m : List ℕ) → placeOf (wideAt m) (pointerAt m) ≡ stackPlace (wideAt m) ((stateAt m) .stack)
 unfolding stateAt stackPlace
 place-at m = refl
 
-next-at : (m : List ℕ) → nextOf (wideAt m) (pointerAt m) ≡ pointerAfter (enstk32At m) ((stateAt m) .stack)
+next-at : (m : List ℕ) → nextOf (wideAt m) (pointerAt m) ≡ pointerAfter (wideAt m) ((stateAt m) .stack)
 unfolding stateAt stackPlace pointerAfter
 next-at m = refl
 
--- the array after a write and a read of 35Dh, and after a write of 353h
-pub pushed-image : (v : ℕ) (m : List ℕ) → IsImage m → set (set m (stackBytesPlace + placeOf (wideAt m) (pointerAt m)) v) pointerPlace (nextOf (wideAt m) (pointerAt m)) ≡ imageOf (withStack (stackWritten (enstk32At m) v ((stateAt m) .stack)) (stateAt m))
+-- the array after a write and a read of 35Dh, and after a write of 353h; b is ENSTK32 as the code read it
+pub pushed-image : (v : ℕ) (m : List ℕ) → IsImage m → {b : Bool} → b ≡ wideAt m → set (set m (stackBytesPlace + placeOf b (pointerAt m)) v) pointerPlace (nextOf b (pointerAt m)) ≡ imageOf (withStack (stackWritten (wideAt m) v ((stateAt m) .stack)) (stateAt m))
 unfolding stackWritten
-pushed-image v m i =
-    let w = enstk32At m in
+pushed-image v m i e =
+    let w = wideAt m in
     let k = (stateAt m) .stack in
-    ap (λ (x : ℕ). set (set m (stackBytesPlace + x) v) pointerPlace (nextOf (wideAt m) (pointerAt m))) (place-at m)
+    ap (λ (b : Bool). set (set m (stackBytesPlace + placeOf b (pointerAt m)) v) pointerPlace (nextOf b (pointerAt m))) e
+    ∙ ap (λ (x : ℕ). set (set m (stackBytesPlace + x) v) pointerPlace (nextOf (wideAt m) (pointerAt m))) (place-at m)
     ∙ ap (λ (x : ℕ). set (set m (stackBytesPlace + stackPlace w k) v) pointerPlace x) (next-at m)
-    ∙ ap (λ (x : List ℕ). set (set x (stackBytesPlace + stackPlace w k) v) 22 (pointerAfter w k)) (i .packed)
+    ∙ ap (λ (x : List ℕ). set (set x (stackBytesPlace + stackPlace w k) v) pointerPlace (pointerAfter w k)) (i .packed)
     ∙ both-image (stateAt m) (i .range) (stackPlace w k) v (pointerAfter w k) (place-lt w k)
 
-pub popped-image : (m : List ℕ) → IsImage m → set m pointerPlace (nextOf (wideAt m) (pointerAt m)) ≡ imageOf (withStack (stackRead (enstk32At m) ((stateAt m) .stack)) (stateAt m))
+pub popped-image : (m : List ℕ) → IsImage m → {b : Bool} → b ≡ wideAt m → set m pointerPlace (nextOf b (pointerAt m)) ≡ imageOf (withStack (stackRead (wideAt m) ((stateAt m) .stack)) (stateAt m))
 unfolding stackRead
-popped-image m i =
-    let p = pointerAfter (enstk32At m) ((stateAt m) .stack) in
-    ap (λ (x : ℕ). set m pointerPlace x) (next-at m)
-    ∙ ap (λ (x : List ℕ). set x 22 p) (i .packed)
+popped-image m i e =
+    let p = pointerAfter (wideAt m) ((stateAt m) .stack) in
+    ap (λ (b : Bool). set m pointerPlace (nextOf b (pointerAt m))) e
+    ∙ ap (λ (x : ℕ). set m pointerPlace x) (next-at m)
+    ∙ ap (λ (x : List ℕ). set x pointerPlace p) (i .packed)
     ∙ pointer-image p (stateAt m)
 
 pub pointed-image : (v : ℕ) (m : List ℕ) → IsImage m → set m pointerPlace (v % 32) ≡ imageOf (withStack (pointed v ((stateAt m) .stack)) (stateAt m))
 unfolding pointed
-pointed-image v m i = ap (λ (x : List ℕ). set x 22 (v % 32)) (i .packed) ∙ pointer-image (v % 32) (stateAt m)
+pointed-image v m i = ap (λ (x : List ℕ). set x pointerPlace (v % 32)) (i .packed) ∙ pointer-image (v % 32) (stateAt m)
