@@ -1,6 +1,7 @@
 -- C and D as the code goes through them.
 use mathlib.Core.Path.{_≡_, refl, ap, sym, _∙_}
 use Rattle.rules.specs.State.{State}
+use Rattle.rules.specs.Seen.{ackSeen, ackDriven}
 use Rattle.rules.specs.StepA.{afterA}
 use Rattle.rules.specs.StepB.{afterB}
 use Rattle.rules.specs.StepC.{settledC}
@@ -25,7 +26,7 @@ module _ (s : State) (e : Event) where
   settled-in-bytes j = record { lines = j .lines; registers = j .registers; transfer = settled-bytes s e j .transfer; stack = j .stack }
 
   pub all-of-d : closedBy (s .registers .simode0) (s .registers .simode1) ((afterA s e) .status) ((settledC s e) .acks) settledState ≡ afterD s e
-  unfolding closedBy afterD finished
+  unfolding closedBy afterD finished ackSeen ackDriven
   all-of-d =
       let raised = raisedBy settledState in
       let fallen = fallenBy ((settledC s e) .acks) raised in
