@@ -5,7 +5,7 @@ use mathlib.Core.List.{List, _++_}
 use Prim.Native.Nat.{ℕ, _*_, _-_}
 use lib.ListN.{take, drop}
 use Rattle.rules.specs.declared.chip.Chip.{Chip}
-use Rattle.lines.specs.Hex.{linesOf}
+use Rattle.hex.specs.Hex.{linesOf}
 use Rattle.adapter.specs.declared.Printed.{Printed}
 use Rattle.adapter.specs.declared.Received.{Received}
 use Rattle.adapter.specs.Texts.{stepped, printed, answered, IsPrinted, leftOver, tailFrom, IsReceived, withFront, wholeEnd, whole, IsTurned}

@@ -148,7 +148,8 @@ fn turn(
     }
 }
 
-fn main() {
+// The records of the standard input from power reset on, read by read.
+fn answer_all() {
     let mut chip = step::reset::power_reset();
     let mut left = [0u8; 4];
     let mut kept = 0usize;
@@ -165,4 +166,25 @@ fn main() {
         more = t.more;
         turns -= 1;
     }
+}
+
+// One line for whoever started the program with an argument, or with a terminal as its input.
+fn say_what_is_read() {
+    io::write_all(
+        2,
+        b"adapter: reads event records, four raw bytes each, on standard input and takes no arguments: adapter < records\n",
+    );
+}
+
+fn main() {
+    let words = os::arg_count();
+    if words > 1 {
+        say_what_is_read();
+        return;
+    }
+    let is_terminal = libc::isatty(0);
+    if is_terminal == 1 {
+        say_what_is_read();
+    }
+    answer_all();
 }

@@ -34,19 +34,43 @@ ReadMoment start s run = over readOf run ++ (s .transfer .host ++ s .transfer .s
 abbrev pub stateAfter : State → List Exchange → State
 stateAfter s earlier = after s (handedOver earlier)
 
+-- the exchanges of a part, with whatever came earlier and comes later
+abbrev pub Part : List Exchange → List Exchange → List Exchange → List Exchange → Type 0
+Part xs earlier part later = xs ≡ earlier ++ (part ++ later)
+
+-- all bytes taken are a beginning of the data
+abbrev pub Beginning : List ℕ → List Round → List Exchange → Type 0
+Beginning whole rounds last = takenSoFar rounds last ≡ take (length (takenSoFar rounds last)) whole
+
 -- exchanges from a state, whatever came earlier and comes later
 pub record DemandThree (s : State) (xs : List Exchange) : Type 0 where
   -- the five records of a clearing lead to a start from any chip
-  pub start : (earlier final later : List Exchange) (eightbit : Bool) → xs ≡ (earlier ++ final) ++ later → handedOver final ≡ clearingOf eightbit → Starts true (stateAfter s (earlier ++ final))
+  pub start :
+      (earlier final later : List Exchange) (eightbit : Bool) →
+      xs ≡ (earlier ++ final) ++ later → handedOver final ≡ clearingOf eightbit → Starts true (stateAfter s (earlier ++ final))
   -- every moment of a write run
-  pub moment : (earlier run later : List Exchange) → xs ≡ earlier ++ (run ++ later) → Starts true (stateAfter s earlier) → allOver (mayCome runAllows) run ≡ true → WriteMoment (stateAfter s (earlier ++ run)) run
+  pub moment :
+      (earlier run later : List Exchange) → Part xs earlier run later → Starts true (stateAfter s earlier) →
+      allOver (mayCome runAllows) run ≡ true → WriteMoment (stateAfter s (earlier ++ run)) run
   -- a cut and the three reads
-  pub cut : (earlier later : List Exchange) (r : Round) → xs ≡ earlier ++ (exchangesOf r ++ later) → Starts true (stateAfter s earlier) → Keeps r → CutRead r
+  pub cut :
+      (earlier later : List Exchange) (r : Round) → Part xs earlier (exchangesOf r) later → Starts true (stateAfter s earlier) →
+      Keeps r → CutRead r
   -- any number of rounds and a last run; each round begins at a chip that starts a run
-  pub chain : (earlier later : List Exchange) (whole : List ℕ) (rounds : List Round) (last : List Exchange) → xs ≡ earlier ++ ((allRounds rounds ++ last) ++ later) → Drives whole (stateAfter s earlier) rounds last → takenSoFar rounds last ≡ take (length (takenSoFar rounds last)) whole
+  pub chain :
+      (earlier later : List Exchange) (whole : List ℕ) (rounds : List Round) (last : List Exchange) →
+      Part xs earlier (allRounds rounds ++ last) later → Drives whole (stateAfter s earlier) rounds last → Beginning whole rounds last
   -- the same where the driver has nothing but its records and buffers
-  pub blind : (earlier later : List Exchange) (whole : List ℕ) (rounds : List Round) (last : List Exchange) → xs ≡ earlier ++ ((allRounds rounds ++ last) ++ later) → Starts true (stateAfter s earlier) → DrivesBlind whole rounds last → takenSoFar rounds last ≡ take (length (takenSoFar rounds last)) whole
+  pub blind :
+      (earlier later : List Exchange) (whole : List ℕ) (rounds : List Round) (last : List Exchange) →
+      Part xs earlier (allRounds rounds ++ last) later → Starts true (stateAfter s earlier) → DrivesBlind whole rounds last →
+      Beginning whole rounds last
   -- and then nothing was sent but what was taken
-  pub only : (earlier later : List Exchange) (whole : List ℕ) (rounds : List Round) (last : List Exchange) → xs ≡ earlier ++ ((allRounds rounds ++ last) ++ later) → Starts true (stateAfter s earlier) → DrivesBlind whole rounds last → along sentBy (stateAfter s earlier) (handedOver (allRounds rounds)) ≡ taken rounds
+  pub only :
+      (earlier later : List Exchange) (whole : List ℕ) (rounds : List Round) (last : List Exchange) →
+      Part xs earlier (allRounds rounds ++ last) later → Starts true (stateAfter s earlier) → DrivesBlind whole rounds last →
+      along sentBy (stateAfter s earlier) (handedOver (allRounds rounds)) ≡ taken rounds
   -- every moment of a read run
-  pub reading : (earlier run later : List Exchange) → xs ≡ earlier ++ (run ++ later) → Starts false (stateAfter s earlier) → allOver (mayCome runAllows) run ≡ true → ReadMoment (stateAfter s earlier) (stateAfter s (earlier ++ run)) run
+  pub reading :
+      (earlier run later : List Exchange) → Part xs earlier run later → Starts false (stateAfter s earlier) →
+      allOver (mayCome runAllows) run ≡ true → ReadMoment (stateAfter s earlier) (stateAfter s (earlier ++ run)) run

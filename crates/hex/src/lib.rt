@@ -4,6 +4,7 @@ ghost use Prim.Native.Nat.{_+_, _≤_, min};
 ghost use lib.ListN.{length, take, drop};
 ghost use lib.Seq.{paste};
 ghost use Rattle.hex.specs.Hex.{lineOf, Digits, Printed};
+use laws::smaller;
 
 // Both digits of a byte at once: 6 more carries out of the four bits of those that are letters.
 fn digits(b: u8) -> u16
@@ -39,12 +40,6 @@ fn line(b: [u8; 16], out: &mut [u8], at: usize)
         out[at + 2 * i + 1] = (pair / 256) as u8;
     }
     out[at + 32] = 10;
-}
-
-fn smaller(a: usize, b: usize) -> usize
-    ensures { λ r. ⌜ r ≡ min a b ⌝ }
-{
-    if a < b { a } else { b }
 }
 
 // The lines of the answers, as many as there is room for; the number of bytes written.

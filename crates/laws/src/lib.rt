@@ -1,5 +1,6 @@
-// Bits out of a number and eight bits as a byte; in proofs/ the laws on bits, lists and tables that every crate cites.
+// Bits out of a number, eight bits as a byte, the smaller of two; in proofs/ the laws on bits, lists and tables that every crate cites.
 ghost use mathlib.Core.Path.{_≡_};
+ghost use Prim.Native.Nat.{min};
 ghost use Rattle.rules.specs.Numbers.{bit, byteOf};
 
 // Bit k of a number.
@@ -21,4 +22,11 @@ pub fn byte_of(b7: bool, b6: bool, b5: bool, b4: bool, b3: bool, b2: bool, b1: b
         | ((b2 as u8) << 2)
         | ((b1 as u8) << 1)
         | (b0 as u8)
+}
+
+// The smaller of two numbers.
+pub fn smaller(a: usize, b: usize) -> usize
+    ensures { λ r. ⌜ r ≡ min a b ⌝ }
+{
+    if a < b { a } else { b }
 }

@@ -79,7 +79,9 @@ mismatched s = connected s && not (matched s)
 -- "Data is driven when connected and IO not seen: the latch in Manual and Automatic, the byte last sent in Normal while
 -- automatic ACK is on."
 unfoldable pub driving : State → Bool
-driving s = connected s && not (ioSeen s) && (manual (s .registers) || automatic (s .registers) || (normal (s .registers) && s .transfer .ack))
+driving s =
+    connected s && not (ioSeen s)
+    && (manual (s .registers) || automatic (s .registers) || (normal (s .registers) && s .transfer .ack))
 
 -- "Undriven data and parity are 0."
 unfoldable pub dataDriven : State → ℕ

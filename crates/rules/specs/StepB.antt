@@ -95,9 +95,7 @@ afterRstRises last now = cond (rstRises last now) (busReset now) now
 
 -- 3. "REQ rises and RST not seen"
 unfoldable pub reqRises : State → State → Bool
-reqRises last now =
-    reqSeen now && not (reqSeen last)
-    && not (rstSeen now)
+reqRises last now = reqSeen now && not (reqSeen last) && not (rstSeen now)
 
 -- "If connected, IO seen and ENSPCHK, and data with parity has an even number of ones"
 unfoldable pub parityBad : State → Bool

@@ -16,6 +16,7 @@ use image::layout::HOST_COUNT;
 use image::layout::Image;
 use image::layout::SCSI_BYTES;
 use image::layout::SCSI_COUNT;
+use laws::smaller;
 use rules::chip::Conditions;
 
 // k bytes from the host FIFO behind those of the SCSI FIFO.
@@ -42,12 +43,6 @@ fn carried_in(m: &mut Image, k: usize)
     copied(m, SCSI_BYTES, HOST_BYTES + held, k);
     m[HOST_COUNT] = (held + k) as u8;
     scsi_popped(m, k);
-}
-
-fn smaller(a: usize, b: usize) -> usize
-    ensures { λ r. ⌜ r ≡ min a b ⌝ }
-{
-    if a < b { a } else { b }
 }
 
 // The moves that are possible one after the other; most often there is nothing to move, which is looked at first.

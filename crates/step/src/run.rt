@@ -10,13 +10,8 @@ use crate::reset::tidied;
 use event::stepping::stepped;
 use image::layout::Image;
 use image::layout::SIZE;
+use laws::smaller;
 use rules::chip::Chip;
-
-fn smaller(a: usize, b: usize) -> usize
-    ensures { λ r. ⌜ r ≡ min a b ⌝ }
-{
-    if a < b { a } else { b }
-}
 
 // Record i, and its answer in its place; the last record ends where the slice does.
 fn turn(m: &mut Image, records: &[u8], answers: &mut [u8], i: usize)

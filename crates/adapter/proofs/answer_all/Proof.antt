@@ -5,8 +5,8 @@ use native.Mathlib.Omega.{arith}
 use borrow.Author.Needs.{needs}
 use lib.ListN.{length, length-replicate}
 use Rattle.adapter.proofs.Waiting.{left-over-small}
-use Rattle.adapter.proofs.main.Statement.{statement}
-use Rattle.adapter.proofs.main.Tie as tie
+use Rattle.adapter.proofs.answer_all.Statement.{statement}
+use Rattle.adapter.proofs.answer_all.Tie as tie
 
 abbrev Inv-loop : tie.InvT-loop
 Inv-loop chip₀ left₀ kept₀ turns₀ more₀ input₀ answers₀ text₀ chip left kept turns more input answers text =
@@ -29,8 +29,8 @@ loop-again c =
       turn .kept .1 .1 .1 .1 .1 .0 ∙ l .inv .3,
     )
 
-pub main-spec : {M : Type 1} → statement M
-main-spec =
+pub answer-all-spec : {M : Type 1} → statement M
+answer-all-spec =
     tie.close
     (tie.spec
     Inv-loop
