@@ -40,10 +40,10 @@ module _ (m : List ℕ) (h : IsImage m) where
   host-of = ap (λ (l : List ℕ). take 128 (drop hostBytesPlace l)) (h .packed) ∙ host-places (stateAt m) (h .range)
 
   scsi-counts : getD m scsiCountPlace 0 ≡ length (stateAt m .transfer .scsi)
-  scsi-counts = ap (λ (l : List ℕ). getD l 23 0) (h .packed) ∙ scsi-count (stateAt m)
+  scsi-counts = ap (λ (l : List ℕ). getD l scsiCountPlace 0) (h .packed) ∙ scsi-count (stateAt m)
 
   host-counts : getD m hostCountPlace 0 ≡ length (stateAt m .transfer .host)
-  host-counts = ap (λ (l : List ℕ). getD l 24 0) (h .packed) ∙ host-count (stateAt m)
+  host-counts = ap (λ (l : List ℕ). getD l hostCountPlace 0) (h .packed) ∙ host-count (stateAt m)
 
   pub scsi-held : take 8 (drop scsiBytesPlace m) ≡ padded 8 (transferAt m .scsi)
   unfolding stateAt

@@ -12,7 +12,7 @@ use Rattle.rules.specs.declared.chip.Chip.{Chip}
 use Rattle.rules.proofs.Ranges.{bytes-take}
 use Rattle.laws.proofs.Chips.{tidy-registers, tidy-host, tidy-scsi}
 use Rattle.image.specs.Image.{imageOf}
-use Rattle.image.specs.Layout.{imageSize}
+use Rattle.image.specs.Layout.{hostBytesPlace, imageSize, offsetPlace, scsiBytesPlace, scsiCountPlace, stackBytesPlace, statusPlace}
 use Rattle.chips.specs.Parts.{registersBytes, flagsBytes, numbersBytes, countsBytes, Placed}
 
 -- the first k bytes are in their places
@@ -73,14 +73,14 @@ module _ (c : Chip) (t : Tidy c) where
   counts-fit = (omega (arith, tidy-scsi c t, t .range .transfer .scsi), omega (arith, tidy-host c t, t .range .transfer .host))
 
   -- the array after each of the seven calls
-  pub all-stored : (m : List ℕ) {m1 m2 m3 m4 m5 m6 m7 : List ℕ} → m1 ≡ sets m 0 (registersBytes (c .registers)) → m2 ≡ sets m1 12 (flagsBytes (c .status) (c .latches) (c .lines)) → m3 ≡ sets m2 17 (numbersBytes (c .path .offset) (c .path .ack) (c .path .last) (c .quiet) (c .identity) (c .stack .pointer)) → m4 ≡ sets m3 23 (countsBytes (c .path .scsi .count) (c .path .host .count) (c .path .counter)) → Placed m4 28 (c .path .scsi .bytes) 8 m5 → Placed m5 36 (c .stack .bytes) 32 m6 → Placed m6 68 (c .path .host .bytes) 128 m7 → m7 ≡ imageOf (view c)
+  pub all-stored : (m : List ℕ) {m1 m2 m3 m4 m5 m6 m7 : List ℕ} → m1 ≡ sets m 0 (registersBytes (c .registers)) → m2 ≡ sets m1 statusPlace (flagsBytes (c .status) (c .latches) (c .lines)) → m3 ≡ sets m2 offsetPlace (numbersBytes (c .path .offset) (c .path .ack) (c .path .last) (c .quiet) (c .identity) (c .stack .pointer)) → m4 ≡ sets m3 scsiCountPlace (countsBytes (c .path .scsi .count) (c .path .host .count) (c .path .counter)) → Placed m4 scsiBytesPlace (c .path .scsi .bytes) 8 m5 → Placed m5 stackBytesPlace (c .stack .bytes) 32 m6 → Placed m6 hostBytesPlace (c .path .host .bytes) 128 m7 → m7 ≡ imageOf (view c)
   all-stored m {m1} {m2} {m3} {m4} e1 e2 e3 e4 p5 p6 p7 =
       let l1 : length m1 ≡ length m = rw e1 (length-sets m 0 (registersBytes (c .registers))) in
-      let l2 : length m2 ≡ length m1 = rw e2 (length-sets m1 12 (flagsBytes (c .status) (c .latches) (c .lines))) in
+      let l2 : length m2 ≡ length m1 = rw e2 (length-sets m1 statusPlace (flagsBytes (c .status) (c .latches) (c .lines))) in
       let l3 : length m3 ≡ length m2 =
-      rw e3 (length-sets m2 17 (numbersBytes (c .path .offset) (c .path .ack) (c .path .last) (c .quiet) (c .identity) (c .stack .pointer)))
+      rw e3 (length-sets m2 offsetPlace (numbersBytes (c .path .offset) (c .path .ack) (c .path .last) (c .quiet) (c .identity) (c .stack .pointer)))
       in
-      let l4 : length m4 ≡ length m3 = rw e4 (length-sets m3 23 (countsBytes (c .path .scsi .count) (c .path .host .count) (c .path .counter))) in
+      let l4 : length m4 ≡ length m3 = rw e4 (length-sets m3 scsiCountPlace (countsBytes (c .path .scsi .count) (c .path .host .count) (c .path .counter))) in
       let f0 : Filled m 0 [] = none m (omega (arith, p5 .size)) in
       let f1 = stored f0 (registersBytes (c .registers)) (omega arith) e1 in
       let f2 = stored f1 (flagsBytes (c .status) (c .latches) (c .lines)) (omega arith) e2 in

@@ -27,7 +27,8 @@ byteStored b m = set (set m (scsiBytesPlace + getD m scsiCountPlace 0) b) scsiCo
 -- the offset and the automatic ACK
 abbrev pub countStored : Bool → Bool → Bool → List ℕ → List ℕ
 countStored zeroed counted released m =
-    set (set m offsetPlace (cond zeroed 0 (cond counted (getD m offsetPlace 0 + 1) (getD m offsetPlace 0)))) ackPlace (one (not released && eqb (getD m ackPlace 0) 1))
+    set (set m offsetPlace (cond zeroed 0 (cond counted (getD m offsetPlace 0 + 1) (getD m offsetPlace 0)))) ackPlace
+    (one (not released && eqb (getD m ackPlace 0) 1))
 
 -- the status, changed by a part of B
 abbrev pub statusStored : (Status → Status) → List ℕ → List ℕ

@@ -31,7 +31,7 @@ pub record Tests (s : State) (e : Event) (shut full short : Bool) : Type 0 where
 
 module _ {m : List ℕ} (g : IsImage m) where
   pub held-is : getD m hostCountPlace 0 ≡ length ((stateAt m) .transfer .host)
-  held-is = ap (λ (l : List ℕ). getD l 24 0) (g .packed) ∙ count-of (stateAt m)
+  held-is = ap (λ (l : List ℕ). getD l hostCountPlace 0) (g .packed) ∙ count-of (stateAt m)
 
   pub held-fits : getD m hostCountPlace 0 ≤ 128
   held-fits = rw held-is (g .range .transfer .host)

@@ -64,7 +64,7 @@ module _ {m : List ℕ} (g : IsImage m) {r : List ℕ} (h : r ≡ imageOf (raise
   pub image-raised : IsImage r
   image-raised = image-is (raisedBy s) h raised-range raised-bytes
 
-  status-raised : statusOf (getD r 12 0) ≡ (raisedBy s) .status
+  status-raised : statusOf (getD r statusPlace 0) ≡ (raisedBy s) .status
   status-raised = status-of r (state-is (raisedBy s) h raised-range raised-bytes)
 
   module _ (acks : ℕ) {l : List ℕ} (k : l ≡ imageOf (fallenBy acks (stateAt r))) where
@@ -84,8 +84,8 @@ module _ {m : List ℕ} (g : IsImage m) {r : List ℕ} (h : r ≡ imageOf (raise
     pub image-fallen : IsImage l
     image-fallen = image-is (fallenBy acks (raisedBy s)) fallen-is fallen-range fallen-bytes
 
-    pub closed : (b0 : Simode0) (b1 : Simode1) (status : Status) {d : List ℕ} → d ≡ imageOf (latchedBy b0 b1 status (statusOf (getD r 12 0)) (stateAt l)) → d ≡ imageOf (closedBy b0 b1 status acks s)
+    pub closed : (b0 : Simode0) (b1 : Simode1) (status : Status) {d : List ℕ} → d ≡ imageOf (latchedBy b0 b1 status (statusOf (getD r statusPlace 0)) (stateAt l)) → d ≡ imageOf (closedBy b0 b1 status acks s)
     unfolding closedBy
     closed b0 b1 status w =
-        onward (latchedBy b0 b1 status (statusOf (getD r 12 0))) (fallenBy acks (raisedBy s)) fallen-is fallen-range fallen-bytes w
+        onward (latchedBy b0 b1 status (statusOf (getD r statusPlace 0))) (fallenBy acks (raisedBy s)) fallen-is fallen-range fallen-bytes w
         ∙ ap (λ (t : Status). imageOf (latchedBy b0 b1 status t (fallenBy acks (raisedBy s)))) status-raised

@@ -268,12 +268,12 @@ module _ (s : State) (f : InRange s) where
 
   pub stack-at : drop stackBytesPlace (imageOf s) ≡ s .stack .bytes ++ padded 128 (s .transfer .host)
   stack-at =
-      sym (drop-drop 8 28 (imageOf s)) ∙ ap (λ (l : List ℕ). drop 8 l) scsi-at
+      sym (drop-drop 8 scsiBytesPlace (imageOf s)) ∙ ap (λ (l : List ℕ). drop 8 l) scsi-at
       ∙ drop-at (padded 8 (s .transfer .scsi)) (s .stack .bytes ++ padded 128 (s .transfer .host)) 8 scsi-size
 
   pub host-at : drop hostBytesPlace (imageOf s) ≡ padded 128 (s .transfer .host)
   host-at =
-      sym (drop-drop 32 36 (imageOf s)) ∙ ap (λ (l : List ℕ). drop 32 l) stack-at
+      sym (drop-drop 32 stackBytesPlace (imageOf s)) ∙ ap (λ (l : List ℕ). drop 32 l) stack-at
       ∙ drop-at (s .stack .bytes) (padded 128 (s .transfer .host)) 32 (f .stack .size)
 
   pub transfer-back : transferAt (imageOf s) ≡ s .transfer

@@ -1,5 +1,6 @@
 -- The stored registers, each from the byte written and to the byte read back.
--- Document 01, "Registers": "Names and bits as document 001. Reserved bits (341h 2 and 0, 342h 0, 350h 7, 353h 5) are not stored and read 0."
+-- Document 01, "Registers": "Names and bits as document 001. Reserved bits (341h 2 and 0, 342h 0, 350h 7, 353h 5) are not
+-- stored and read 0."
 use Prim.Native.Nat.{ℕ, _+_, _*_}
 use mathlib.Core.Bool.{Bool, true, false, _||_}
 use Rattle.rules.specs.Numbers.{bit, field, one, byteOf}

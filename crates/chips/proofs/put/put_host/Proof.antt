@@ -5,14 +5,15 @@ use Rattle.chips.proofs.Elements.{array-bytes}
 use Rattle.chips.proofs.Pasted.{Pasted, begun, again, ended}
 use Rattle.chips.proofs.put.put_host.Statement.{statement}
 use Rattle.chips.proofs.put.put_host.Tie as tie
+use Rattle.image.specs.Layout.{hostBytesPlace}
 
 abbrev Inv-loop : tie.InvT-loop
-Inv-loop m₀ b i₀ m i = Pasted m₀ 68 b 128 m i
+Inv-loop m₀ b i₀ m i = Pasted m₀ hostBytesPlace b 128 m i
 
 pub put-host-spec : {M : Type 1} → statement M
 put-host-spec =
     tie.close (tie.spec Inv-loop (λ m₀ b i₀ m i. 128 - i)
-    (λ c. begun (c .args .m .now) 68 (c .args .t1) 128 (c .pre) (search needs) (array-bytes 128 (c .args .t1) _ (c .good .0)) (omega arith))
+    (λ c. begun (c .args .m .now) hostBytesPlace (c .args .t1) 128 (c .pre) (search needs) (array-bytes 128 (c .args .t1) _ (c .good .0)) (omega arith))
     (λ c. omega arith) (λ c. omega arith) (λ c. omega arith) (λ c. omega arith) (λ c. omega arith)
     (λ c. again (c .before .loop .inv) (omega arith))
     (λ c. omega arith)

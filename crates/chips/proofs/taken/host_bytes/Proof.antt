@@ -3,14 +3,15 @@ use native.Mathlib.Omega.{arith}
 use Rattle.chips.proofs.Window.{Taken, begun, again, ended}
 use Rattle.chips.proofs.taken.host_bytes.Statement.{statement}
 use Rattle.chips.proofs.taken.host_bytes.Tie as tie
+use Rattle.image.specs.Layout.{hostBytesPlace}
 
 abbrev Inv-loop : tie.InvT-loop
-Inv-loop m out₀ i₀ out i = Taken m 68 128 out i
+Inv-loop m out₀ i₀ out i = Taken m hostBytesPlace 128 out i
 
 pub host-bytes-spec : {M : Type 1} → statement M
 host-bytes-spec =
     tie.close (tie.spec Inv-loop (λ m out₀ i₀ out i. 128 - i)
-    (λ c. begun (c .args .m .now) 68 128 (c .pre) (omega arith))
+    (λ c. begun (c .args .m .now) hostBytesPlace 128 (c .pre) (omega arith))
     (λ c. omega arith) (λ c. omega arith) (λ c. omega arith) (λ c. omega arith) (λ c. omega arith)
     (λ c. again (c .before .before .loop .inv) (omega arith))
     (λ c. ended (c .before .loop .inv) (omega arith)))

@@ -3,14 +3,15 @@ use native.Mathlib.Omega.{arith}
 use Rattle.chips.proofs.Window.{Taken, begun, again, ended}
 use Rattle.chips.proofs.taken.stack_bytes.Statement.{statement}
 use Rattle.chips.proofs.taken.stack_bytes.Tie as tie
+use Rattle.image.specs.Layout.{stackBytesPlace}
 
 abbrev Inv-loop : tie.InvT-loop
-Inv-loop m out₀ i₀ out i = Taken m 36 32 out i
+Inv-loop m out₀ i₀ out i = Taken m stackBytesPlace 32 out i
 
 pub stack-bytes-spec : {M : Type 1} → statement M
 stack-bytes-spec =
     tie.close (tie.spec Inv-loop (λ m out₀ i₀ out i. 32 - i)
-    (λ c. begun (c .args .m .now) 36 32 (c .pre) (omega arith))
+    (λ c. begun (c .args .m .now) stackBytesPlace 32 (c .pre) (omega arith))
     (λ c. omega arith) (λ c. omega arith) (λ c. omega arith) (λ c. omega arith) (λ c. omega arith)
     (λ c. again (c .before .before .loop .inv) (omega arith))
     (λ c. ended (c .before .loop .inv) (omega arith)))
