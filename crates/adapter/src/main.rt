@@ -5,6 +5,15 @@ ghost use Prim.Native.Nat.{_*_, _≤_};
 ghost use lib.ListN.{drop, length, getD};
 ghost use Rattle.adapter.specs.Texts.{IsPrinted, IsReceived, IsTurned, answered, leftOver, nothing, stepped, tailFrom};
 use rules::chip::Chip;
+use rules::records::ANSWER_SIZE;
+use rules::records::RECORD_SIZE;
+
+// One read of 4,096 bytes behind a piece of a record: 1,025 records, their answers and their lines.
+const INPUT_SIZE: usize = 4100;
+
+const ANSWERS_SIZE: usize = 16400;
+
+const TEXT_SIZE: usize = 33825;
 
 // The chip after some records, and the number of bytes of their lines.
 pub struct Printed {
@@ -23,7 +32,7 @@ pub struct Turned {
     pub received: Received,
     pub is_written: bool,
     pub chip: Chip,
-    pub left: [u8; 4],
+    pub left: [u8; RECORD_SIZE],
     pub kept: usize,
     pub more: bool,
 }
@@ -35,7 +44,7 @@ fn print(c: Chip, records: &[u8], answers: &mut [u8], text: &mut [u8]) -> Printe
     ensures { λ _. ⌜ now (answers .exit) ≡ answered c (now (records .entry)) ++ drop (16 * stepped (now (records .entry))) (now (answers .entry)) ⌝ }
 {
     let ran = step::run::run(c, records, answers);
-    let size = hex::print(&answers[..16 * ran.count], text);
+    let size = hex::print(&answers[..ANSWER_SIZE * ran.count], text);
     let chip = ran.chip;
     Printed {
         chip: chip,
@@ -78,7 +87,7 @@ fn receive(input: &mut [u8], kept: usize) -> Received
 fn left_over(held: usize, is_end: bool) -> usize
     ensures { λ r. ⌜ r ≡ leftOver held «is_end» ⌝ }
 {
-    if is_end { 0 } else { held % 4 }
+    if is_end { 0 } else { held % RECORD_SIZE }
 }
 
 // The byte at a place, 0 past the end.
@@ -89,7 +98,7 @@ fn byte_at(bytes: &[u8], at: usize) -> u8
 }
 
 // The bytes from a place on, as many as can be left over.
-fn tail(bytes: &[u8], from: usize) -> [u8; 4]
+fn tail(bytes: &[u8], from: usize) -> [u8; RECORD_SIZE]
     requires { ⌜ from ≤ length (now bytes) ⌝ }
     ensures { λ r. ⌜ r ≡ tailFrom (now (bytes .entry)) from ⌝ }
 {
@@ -114,7 +123,7 @@ fn send(lines: &[u8]) -> bool {
 // One read, so that answers come as soon as their records do. Nothing is read of what an earlier turn left in the arrays.
 fn turn(
     c: Chip,
-    left: [u8; 4],
+    left: [u8; RECORD_SIZE],
     kept: usize,
     input: &mut [u8],
     answers: &mut [u8],
@@ -151,13 +160,13 @@ fn turn(
 // The records of the standard input from power reset on, read by read.
 fn answer_all() {
     let mut chip = step::reset::power_reset();
-    let mut left = [0u8; 4];
+    let mut left = [0u8; RECORD_SIZE];
     let mut kept = 0usize;
     let mut turns = u64::MAX;
     let mut more = true;
-    let mut input = [0u8; 4100];
-    let mut answers = [0u8; 16400];
-    let mut text = [0u8; 33825];
+    let mut input = [0u8; INPUT_SIZE];
+    let mut answers = [0u8; ANSWERS_SIZE];
+    let mut text = [0u8; TEXT_SIZE];
     while turns > 0 && more {
         let t = turn(chip, left, kept, &mut input, &mut answers, &mut text);
         chip = t.chip;

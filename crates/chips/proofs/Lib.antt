@@ -2,4 +2,4 @@ pub mod Elements
 pub mod Pasted
 pub mod Stored
 pub mod Window
-pub mod Held
+pub mod FifosAsChip

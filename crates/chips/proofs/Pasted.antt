@@ -8,7 +8,7 @@ use lib.ListN.{length, set, getD, length-set}
 use lib.Seq.{paste, paste-zero, paste-suc}
 use Rattle.rules.specs.Ranges.{Bytes}
 use Rattle.image.specs.Layout.{imageSize}
-use Rattle.chips.specs.Parts.{Placed}
+use Rattle.chips.specs.HeadRuns.{Placed}
 
 -- i of the n bytes of s stand in m from a place on, the rest is as it was
 pub record Pasted (before : List ℕ) (at : ℕ) (s : List ℕ) (n : ℕ) (m : List ℕ) (i : ℕ) : Type 0 where

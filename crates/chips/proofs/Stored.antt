@@ -13,7 +13,7 @@ use Rattle.rules.proofs.Ranges.{bytes-take}
 use Rattle.laws.proofs.Chips.{tidy-registers, tidy-host, tidy-scsi}
 use Rattle.image.specs.Image.{imageOf}
 use Rattle.image.specs.Layout.{hostBytesPlace, imageSize, offsetPlace, scsiBytesPlace, scsiCountPlace, stackBytesPlace, statusPlace}
-use Rattle.chips.specs.Parts.{registersBytes, flagsBytes, numbersBytes, countsBytes, Placed}
+use Rattle.chips.specs.HeadRuns.{registersBytes, flagsBytes, numbersBytes, countsBytes, Placed}
 
 -- the first k bytes are in their places
 pub record Filled (m : List ℕ) (k : ℕ) (p : List ℕ) : Type 0 where

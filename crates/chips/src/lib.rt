@@ -6,7 +6,7 @@ ghost use mathlib.Core.Path.{_≡_};
 ghost use Rattle.rules.specs.Chips.{chipOf};
 ghost use Rattle.rules.specs.Ranges.{Tidy};
 ghost use Rattle.image.specs.Image.{stateAt, IsImage};
-ghost use Rattle.chips.specs.Parts.{Stored};
+ghost use Rattle.chips.specs.HeadRuns.{Stored};
 use crate::put::put_counts;
 use crate::put::put_flags;
 use crate::put::put_host;

@@ -4,7 +4,7 @@ ghost use Prim.Native.Nat.{_<_};
 ghost use lib.ListN.{length};
 ghost use lib.Seq.{sets};
 ghost use Rattle.rules.specs.Ranges.{RegistersFit, RegistersBytes};
-ghost use Rattle.chips.specs.Parts.{registersBytes, flagsBytes, numbersBytes, countsBytes, Placed};
+ghost use Rattle.chips.specs.HeadRuns.{registersBytes, flagsBytes, numbersBytes, countsBytes, Placed};
 ghost use Rattle.image.specs.Layout.{hostBytesPlace, imageSize, offsetPlace, scsiBytesPlace, scsiCountPlace, scsiseqPlace, stackBytesPlace, statusPlace};
 use image::bytes::control_byte;
 use image::bytes::latches_byte;

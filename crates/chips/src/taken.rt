@@ -4,7 +4,7 @@ ghost use Prim.Native.Nat.{_+_, _*_};
 ghost use lib.ListN.{length, take, drop};
 ghost use Rattle.rules.specs.Chips.{pathOf};
 ghost use Rattle.image.specs.Image.{registersAt, linesAt, transferAt, IsImage};
-ghost use Rattle.chips.specs.Parts.{stackAt};
+ghost use Rattle.chips.specs.HeadRuns.{stackAt};
 ghost use Rattle.image.specs.Layout.{hostBytesPlace, imageSize, scsiBytesPlace, stackBytesPlace};
 use image::layout::ACK;
 use image::layout::BRSTCNTRL;

@@ -11,7 +11,7 @@ use Rattle.rules.specs.Changed.{withHost, withScsi}
 use Rattle.image.specs.Image.{headOf, imageOf}
 use Rattle.image.specs.Layout.{hostBytesPlace, hostCountPlace, scsiBytesPlace, scsiCountPlace}
 use Rattle.datapath.specs.Laid.{laid, lowered}
-use Rattle.datapath.specs.Ready.{Placed}
+use Rattle.datapath.specs.Fits.{FitsPlaces}
 use Rattle.datapath.proofs.Fronts.{sized-at, counted, image-length}
 use Rattle.datapath.proofs.Places.{Sized, image-laid, scsi-joined, host-joined, scsi-lowered, host-lowered, scsi-set, host-set}
 
@@ -23,7 +23,7 @@ more-long : (l r : List ℕ) (k : ℕ) → k ≤ length r → length l + k ≡ l
 more-long l r k h = ap (λ (j : ℕ). length l + j) (sym (length-take-le k r h)) ∙ sym (length-append l (take k r))
 
 -- an array of which it is known which state it is the image of
-module _ {m : List ℕ} (s : State) (e : m ≡ imageOf s) (p : Placed s) where
+module _ {m : List ℕ} (s : State) (e : m ≡ imageOf s) (p : FitsPlaces s) where
   z : Sized (headOf s) (s .transfer .scsi) (s .stack .bytes) (s .transfer .host)
   z = sized-at s p
 

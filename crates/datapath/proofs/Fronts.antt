@@ -8,10 +8,10 @@ use Rattle.rules.specs.State.{State}
 use Rattle.rules.specs.Changed.{withHost}
 use Rattle.image.specs.Image.{headOf, imageOf, stateAt, IsImage}
 use Rattle.image.specs.Layout.{hostCountPlace, imageSize}
-use Rattle.datapath.specs.Ready.{Placed}
+use Rattle.datapath.specs.Fits.{FitsPlaces}
 use Rattle.datapath.proofs.Places.{Sized, image-laid, laid-long}
 
-pub sized-at : (s : State) → Placed s → Sized (headOf s) (s .transfer .scsi) (s .stack .bytes) (s .transfer .host)
+pub sized-at : (s : State) → FitsPlaces s → Sized (headOf s) (s .transfer .scsi) (s .stack .bytes) (s .transfer .host)
 sized-at s p = record { head = refl; scsi = p .scsi; stack = p .stack; host = p .host }
 
 host-count : (s : State) → getD (imageOf s) hostCountPlace 0 ≡ length (s .transfer .host)
@@ -19,7 +19,7 @@ unfolding imageOf
 host-count s = refl
 
 -- an array of which it is known which state it is the image of
-module _ {m : List ℕ} {s : State} (p : Placed s) (e : m ≡ imageOf s) where
+module _ {m : List ℕ} {s : State} (p : FitsPlaces s) (e : m ≡ imageOf s) where
   pub counted : getD m hostCountPlace 0 ≡ length (s .transfer .host)
   counted = ap (λ (x : List ℕ). getD x hostCountPlace 0) e ∙ host-count s
 
@@ -32,8 +32,8 @@ module _ {m : List ℕ} {s : State} (p : Placed s) (e : m ≡ imageOf s) where
   image-length = ap length (e ∙ image-laid s) ∙ laid-long (sized-at s p)
 
 -- a host FIFO that fits its places
-pub with-host : (s : State) (l : List ℕ) → Placed s → length l ≤ 128 → Placed (withHost l s)
+pub with-host : (s : State) (l : List ℕ) → FitsPlaces s → length l ≤ 128 → FitsPlaces (withHost l s)
 with-host s l p h = record { host = h; scsi = p .scsi; stack = p .stack; counter = p .counter }
 
-pub placed-at : (m : List ℕ) → IsImage m → Placed (stateAt m)
+pub placed-at : (m : List ℕ) → IsImage m → FitsPlaces (stateAt m)
 placed-at m i = record { host = i .range .transfer .host; scsi = i .range .transfer .scsi; stack = i .range .stack .size; counter = i .range .transfer .counter }

@@ -11,7 +11,7 @@ use Rattle.image.proofs.ReadBack.{counter-back}
 use Rattle.image.specs.Image.{imageOf}
 use Rattle.rules.specs.Changed.{withCounter, withOffset, withAck}
 use Rattle.image.specs.Layout.{ackPlace, counterHighPlace, counterLowPlace, counterMiddlePlace, offsetPlace, scsiCountPlace}
-use Rattle.datapath.specs.Ready.{Placed, counterWritten, counterCounted}
+use Rattle.datapath.specs.Fits.{FitsPlaces, counterWritten, counterCounted}
 
 -- the three bytes of a number stand for it
 stored : (s : State) (n : ℕ) → set (set (set (imageOf s) counterLowPlace (counterByte 0 n)) counterMiddlePlace (counterByte 1 n)) counterHighPlace (counterByte 2 n) ≡ imageOf (withCounter n s)
@@ -133,7 +133,7 @@ module _ {m : List ℕ} (s : State) (e : m ≡ imageOf s) where
   pub no-offset : set m offsetPlace 0 ≡ imageOf (withOffset 0 s)
   no-offset = ap (λ (y : List ℕ). set y offsetPlace 0) e ∙ offset-stored s 0
 
-  module _ (p : Placed s) where
+  module _ (p : FitsPlaces s) where
     number : getD m counterLowPlace 0 + 256 * getD m counterMiddlePlace 0 + 65536 * getD m counterHighPlace 0 ≡ s .transfer .counter
     number = ap (λ (y : List ℕ). getD y counterLowPlace 0 + 256 * getD y counterMiddlePlace 0 + 65536 * getD y counterHighPlace 0) e ∙ counter-bytes s ∙ counter-back (s .transfer .counter) (p .counter)
 

@@ -4,7 +4,7 @@ ghost use mathlib.Core.Bool.{true};
 ghost use Prim.Native.Nat.{_+_, _*_};
 ghost use Rattle.image.specs.Image.{imageOf, stateAt, IsImage};
 ghost use Rattle.rules.specs.Changed.{withCounter, withAck};
-ghost use Rattle.datapath.specs.Ready.{counterWritten, counterCounted};
+ghost use Rattle.datapath.specs.Fits.{counterWritten, counterCounted};
 use image::layout::ACK;
 use image::layout::COUNTER_HIGH;
 use image::layout::COUNTER_LOW;

@@ -9,8 +9,8 @@ use Rattle.rules.specs.State.{State, Transfer}
 use Rattle.rules.specs.Ranges.{TransferFits, TransferBytes}
 use Rattle.image.specs.Image.{imageOf, stateAt, IsImage}
 use Rattle.effects.specs.Writes.{channelCleared, counterCleared}
-use Rattle.effects.proofs.Going.{onward}
-use Rattle.effects.proofs.Reached.{Reached, there}
+use Rattle.effects.proofs.ImageOnward.{onward}
+use Rattle.effects.proofs.StatesOfA.{Reached, there}
 
 -- the data path, by whether CLRCH was written
 abbrev cleared : Bool → Transfer → Transfer

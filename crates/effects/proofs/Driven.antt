@@ -17,7 +17,7 @@ use Rattle.rules.specs.Changed.{withHost}
 use Rattle.effects.specs.Writes.{kept}
 use Rattle.effects.proofs.Accesses as accesses
 use Rattle.effects.proofs.Coding.{code-at-is, held-fits}
-use Rattle.effects.proofs.Reached.{Leaves}
+use Rattle.effects.proofs.StatesOfA.{Leaves}
 
 -- the state after each, by computing
 module _ (s : State) where

@@ -18,9 +18,9 @@ use Rattle.rules.specs.Changed.{withStatus, withLatches, withStack}
 use Rattle.image.specs.Image.{stateAt, IsImage}
 use Rattle.rules.specs.Changed.{withHost}
 use Rattle.image.specs.Layout.{controlPlace, statusPlace}
-use Rattle.datapath.specs.Ready.{counterWritten}
+use Rattle.datapath.specs.Fits.{counterWritten}
 use Rattle.effects.specs.Writes.{Leaving, Does, Plain, storing, kept, channelCleared, counterCleared, hostCleared, ackCounted}
-use Rattle.effects.proofs.Reached.{Leaves}
+use Rattle.effects.proofs.StatesOfA.{Leaves}
 use Rattle.effects.proofs.WriteCodes.{write-code, Test, test-done}
 
 pub leaves : {o : ℕ} {w : State → ℕ → State} → Does o w → {b : List ℕ} → IsImage b → {v : ℕ} → v < 256 → Leaves b (Write o v) (w (stateAt b) v)

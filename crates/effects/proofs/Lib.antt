@@ -5,11 +5,11 @@ pub mod DoneCode
 pub mod Driven
 pub mod Effects
 pub mod Endings
-pub mod Going
+pub mod ImageOnward
 pub mod LineBits
 pub mod ReadFound
 pub mod ReadLaws
 pub mod ReadParts
-pub mod Reached
+pub mod StatesOfA
 pub mod Unwritable
 pub mod WriteCodes

@@ -25,7 +25,7 @@ use Rattle.effects.specs.CodeBy.{shutTo, firstOf}
 use Rattle.effects.proofs.Accesses.{read}
 use Rattle.effects.proofs.Coding.{held-fits, code-at-is}
 use Rattle.effects.proofs.Endings.{acts-done, acts-refused}
-use Rattle.effects.proofs.Going.{image-is, onward, a-fits, a-bytes}
+use Rattle.effects.proofs.ImageOnward.{image-is, onward, a-fits, a-bytes}
 use Rattle.image.specs.Layout.{hostCountPlace}
 
 module _ {m : List ℕ} (g : IsImage m) (o : ℕ) where

@@ -10,9 +10,9 @@ use Rattle.rules.proofs.Ranges.{step-fits, step-bytes}
 use Rattle.image.specs.Image.{imageOf, stateAt, IsImage}
 use Rattle.reads.specs.Answering.{answerWith}
 use Rattle.reads.proofs.AnswerParts.{answer-parts}
-use Rattle.effects.proofs.Going.{image-is, state-is}
+use Rattle.effects.proofs.ImageOnward.{image-is, state-is}
 use Rattle.event.specs.declared.stepping.Outcome.{Outcome}
-use Rattle.event.specs.Given.{Leaves, Gives}
+use Rattle.event.specs.Outcomes.{Leaves, Gives}
 
 module _ {m : List ℕ} (g : IsImage m) (bytes : List ℕ) {n : List ℕ} {o : Outcome} (l : Leaves (step (stateAt m) bytes) n o) where
   abbrev x : Stepped

@@ -1,7 +1,7 @@
 pub mod Answered
-pub mod PartsOfD
+pub mod AfterSettling
 pub mod Starts
-pub mod Taken
+pub mod RecordTells
 pub mod ThroughAll
 pub mod ThroughB
 pub mod ThroughD

@@ -25,7 +25,7 @@ use Rattle.effects.specs.Acting.{Acts}
 use Rattle.edges.specs.declared.last.Seen.{Seen}
 use Rattle.edges.specs.Since.{rstOf, reqOf, mismatchedOf}
 use Rattle.event.specs.declared.stepping.Outcome.{Outcome}
-use Rattle.event.specs.Given.{Leaves, endedAs}
+use Rattle.event.specs.Outcomes.{Leaves, endedAs}
 use Rattle.event.specs.Opening.{Ends, OpensEvent, Opens, Ready}
 
 not-true : (b : Bool) {a : Bool} → a ≡ not b → a ≡ true → b ≡ false

@@ -21,13 +21,13 @@ use Rattle.rules.specs.declared.chip.Status.{Status}
 use Rattle.fifos.specs.Fifos.{sentOf}
 use Rattle.rules.specs.Changed.{withTransfer}
 use Rattle.image.specs.Image.{imageOf, stateAt, registersAt, IsImage}
-use Rattle.settling.specs.Parts.{startOf}
+use Rattle.settling.specs.Blocks.{startOf}
 use Rattle.settling.specs.declared.Told.{Told}
 use Rattle.settling.specs.Settles.{endOf, Settles}
 use Rattle.event.specs.Closing.{closedBy}
-use Rattle.event.specs.Given.{Leaves}
-use Rattle.effects.proofs.Going.{image-is, state-is, onward}
-use Rattle.event.proofs.PartsOfD as parts
+use Rattle.event.specs.Outcomes.{Leaves}
+use Rattle.effects.proofs.ImageOnward.{image-is, state-is, onward}
+use Rattle.event.proofs.AfterSettling as parts
 
 module _ (s : State) (e : Event) (i : InRange (afterB s e)) (j : InBytes (afterB s e)) {b : List ℕ} (h : b ≡ imageOf (afterB s e)) {n : List ℕ} {t : Told} (w : Settles b (conditions (stateAt b)) n t) where
   state-b : stateAt b ≡ afterB s e

@@ -17,7 +17,7 @@ use Rattle.image.specs.Image.{imageOf, stateAt, IsImage}
 use Rattle.edges.specs.Since.{lastOf, beyondSince, rstOf, reqOf, mismatchedOf}
 use Rattle.edges.specs.declared.last.Seen.{Seen}
 use Rattle.edges.proofs.InOrder.{as-seen, beyond-as-seen}
-use Rattle.effects.proofs.Going.{image-is, state-is}
+use Rattle.effects.proofs.ImageOnward.{image-is, state-is}
 
 module _ (s : State) (i : InRange s) (j : InBytes s) (e : Event) (f : EventFits e) (d : accessCode s e ≡ Done) {n : List ℕ} (h : n ≡ imageOf (afterA s e)) where
   a-fits : InRange (afterA s e)

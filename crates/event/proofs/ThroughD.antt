@@ -13,7 +13,7 @@ use Rattle.rules.specs.declared.registers.Simode1.{Simode1}
 use Rattle.rules.specs.declared.chip.Status.{Status}
 use Rattle.image.specs.Image.{imageOf, stateAt, statusOf, IsImage}
 use Rattle.event.specs.Closing.{raisedBy, fallenBy, latchedBy, closedBy}
-use Rattle.effects.proofs.Going.{image-is, state-is, onward}
+use Rattle.effects.proofs.ImageOnward.{image-is, state-is, onward}
 use Rattle.image.specs.Layout.{statusPlace}
 
 -- with a path the mode is Normal, not Automatic

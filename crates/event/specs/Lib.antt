@@ -1,3 +1,3 @@
 pub mod Closing
-pub mod Given
+pub mod Outcomes
 pub mod Opening

@@ -3,7 +3,7 @@ ghost use mathlib.Core.Path.{_≡_};
 ghost use mathlib.Core.Bool.{cond};
 ghost use Rattle.rules.specs.Step.{done};
 ghost use Rattle.rules.specs.declared.codes.Code.the-variants.{Done, BeyondLimit};
-ghost use Rattle.event.specs.Given.{Leaves};
+ghost use Rattle.event.specs.Outcomes.{Leaves};
 ghost use Rattle.event.specs.Opening.{Ready};
 use crate::closing::closed_in;
 use crate::stepping::Outcome;

@@ -2,7 +2,7 @@
 ghost use mathlib.Core.Path.{_≡_};
 ghost use Rattle.rules.specs.Step.{step};
 ghost use Rattle.image.specs.Image.{IsImage, stateAt};
-ghost use Rattle.event.specs.Given.{Leaves, Gives, endedAs};
+ghost use Rattle.event.specs.Outcomes.{Leaves, Gives, endedAs};
 use crate::finishing::finished;
 use crate::opening::opened;
 use edges::since::seen_in;

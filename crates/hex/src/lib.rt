@@ -5,6 +5,10 @@ ghost use lib.ListN.{length, take, drop};
 ghost use lib.Seq.{paste};
 ghost use Rattle.hex.specs.Hex.{lineOf, Digits, Printed};
 use laws::smaller;
+use rules::records::ANSWER_SIZE;
+
+// 32 hex digits and the end of the line.
+pub const LINE_SIZE: usize = 33;
 
 // Both digits of a byte at once: 6 more carries out of the four bits of those that are letters.
 fn digits(b: u8) -> u16
@@ -18,11 +22,11 @@ fn digits(b: u8) -> u16
 }
 
 // An answer in an array of its own: the compiler then sees that no store of a line changes it.
-fn copied(answers: &[u8], from: usize) -> [u8; 16]
+fn copied(answers: &[u8], from: usize) -> [u8; ANSWER_SIZE]
     requires { ⌜ from + 16 ≤ length (now answers) ⌝ }
     ensures { λ r. ⌜ r ≡ take 16 (drop from (now (answers .entry))) ⌝ }
 {
-    let mut b = [0u8; 16];
+    let mut b = [0u8; ANSWER_SIZE];
     for i in 0..16usize {
         b[i] = answers[from + i];
     }
@@ -30,7 +34,7 @@ fn copied(answers: &[u8], from: usize) -> [u8; 16]
 }
 
 // The line of an answer at a place of out.
-fn line(b: [u8; 16], out: &mut [u8], at: usize)
+fn line(b: [u8; ANSWER_SIZE], out: &mut [u8], at: usize)
     requires { ⌜ at + 33 ≤ length (now out) ⌝ }
     ensures { λ _. ⌜ now (out .exit) ≡ paste (now (out .entry)) at (lineOf b) 33 ⌝ }
 {
@@ -46,9 +50,9 @@ fn line(b: [u8; 16], out: &mut [u8], at: usize)
 pub fn print(answers: &[u8], out: &mut [u8]) -> usize
     ensures { λ r. ⌜ Printed (now (answers .entry)) (now (out .entry)) (now (out .exit)) r ⌝ }
 {
-    let n = smaller(answers.len() / 16, out.len() / 33);
+    let n = smaller(answers.len() / ANSWER_SIZE, out.len() / LINE_SIZE);
     for k in 0..n {
-        line(copied(answers, 16 * k), out, 33 * k);
+        line(copied(answers, ANSWER_SIZE * k), out, LINE_SIZE * k);
     }
-    33 * n
+    LINE_SIZE * n
 }

@@ -35,6 +35,7 @@ use image::layout::POINTER;
 use image::layout::SCSI_COUNT;
 use image::layout::STACK_BYTES;
 use laws::byte_of;
+use stack::place_of;
 
 // ATN is driven by others or by the chip.
 fn atn_seen(m: &Image) -> bool
@@ -150,8 +151,7 @@ fn stack_place(m: &Image) -> u8
     ensures { λ r. ⌜ r ≡ stackPlace ((stateAt (now (m .entry))) .registers .dmacntrl1 .enstk32) ((stateAt (now (m .entry))) .stack) ⌝ }
 {
     let enstk32 = enstk32(m);
-    let pointer = m[POINTER];
-    if enstk32 { pointer % 32 } else { pointer % 16 }
+    place_of(enstk32, m[POINTER])
 }
 
 // 35Dh

@@ -50,3 +50,8 @@ pub struct Answer {
     pub host: u8,
     pub sent: [u8; 8],
 }
+
+// "An event is 4 bytes", "An answer is 16 bytes".
+pub const RECORD_SIZE: usize = 4;
+
+pub const ANSWER_SIZE: usize = 16;

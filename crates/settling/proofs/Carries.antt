@@ -15,8 +15,8 @@ use Rattle.datapath.proofs.Ends.{scsi-behind, host-behind}
 use Rattle.datapath.proofs.Fronts.{counted, placed-at, sized-at}
 use Rattle.datapath.proofs.Heads.{scsi-counted}
 use Rattle.datapath.proofs.Places.{Sized, image-laid, scsi-from, host-from}
-use Rattle.settling.specs.Parts.{carried}
-use Rattle.settling.proofs.Kept.{long, kept}
+use Rattle.settling.specs.Blocks.{carried}
+use Rattle.settling.proofs.ReadBackOfTransfer.{long, kept}
 
 -- the counts of an image
 pub scsi-held : (m : List ℕ) → IsImage m → getD m scsiCountPlace 0 ≡ length ((stateAt m) .transfer .scsi)

@@ -14,7 +14,7 @@ use Rattle.rules.specs.declared.chip.Conditions.{Conditions}
 use Rattle.rules.proofs.Logic.{never}
 use Rattle.rules.proofs.Rest.{settling-reports}
 use Rattle.fifos.specs.Fifos.{sentOf}
-use Rattle.settling.specs.Parts.{startOf, movable, carried}
+use Rattle.settling.specs.Blocks.{startOf, movable, carried}
 use Rattle.rules.specs.Changed.{withTransfer}
 use Rattle.image.specs.Image.{imageOf, stateAt, IsImage}
 use Rattle.settling.specs.declared.Told.{Told}
@@ -22,7 +22,7 @@ use Rattle.settling.specs.Looks.{lookedAt, mayShake}
 use Rattle.settling.specs.Steps.{Moves}
 use Rattle.settling.specs.Settles.{Settles, endOf}
 use Rattle.settling.proofs.Looked.{looked-ends}
-use Rattle.settling.proofs.Going as going
+use Rattle.settling.proofs.BetweenTurns as going
 
 middle-false : (a b d : Bool) → b ≡ false → (a && b && d) ≡ false
 middle-false true true d e = absurd (never (sym e))

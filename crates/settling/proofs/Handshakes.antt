@@ -15,17 +15,17 @@ use Rattle.rules.proofs.Logic.{cond-case}
 use Rattle.rules.proofs.Ranges.{bytes-append, bytes-drop, bytes-at}
 use Rattle.rules.proofs.Rest.{handshake-full}
 use Rattle.laws.proofs.Lists.{elements, elements-all, padded-length, padded-shift}
-use Rattle.settling.specs.Parts.{startOf, passed, acknowledged}
+use Rattle.settling.specs.Blocks.{startOf, passed, acknowledged}
 use Rattle.settling.proofs.ShakeParts.{passed-none}
 use Rattle.rules.specs.Changed.{withAck, withScsi, withTransfer}
 use Rattle.image.specs.Image.{headOf, imageOf, stateAt, IsImage}
 use Rattle.datapath.specs.Laid.{laid}
-use Rattle.settling.specs.Steps.{byteOf}
+use Rattle.settling.specs.Steps.{bytePassed}
 use Rattle.datapath.proofs.Places.{Sized, flat, image-laid, scsi-from}
-use Rattle.settling.proofs.Kept.{sized, offset-at}
+use Rattle.settling.proofs.ReadBackOfTransfer.{sized, offset-at}
 use Rattle.image.specs.Layout.{lastPlace, offsetPlace, scsiBytesPlace, scsiCountPlace}
 use Rattle.settling.proofs.Carries.{scsi-held}
-use Rattle.datapath.specs.Ready.{counterCounted}
+use Rattle.datapath.specs.Fits.{counterCounted}
 use Rattle.datapath.proofs.Heads.{offset-stored}
 
 -- another SCSI FIFO and byte last sent in their places
@@ -105,11 +105,11 @@ pass-sent o l t p = rw p
 
 -- its byte leaves the data path in range
 module _ (c : Conditions) (t : Transfer) where
-  pub passed-fits : canHandshake c t ≡ true → TransferFits t → TransferFits (byteOf c t)
+  pub passed-fits : canHandshake c t ≡ true → TransferFits t → TransferFits (bytePassed c t)
   unfolding passed handshake startOf
   passed-fits h f = record { host = f .host; scsi = handshake-full c (startOf t) h (f .scsi); counter = f .counter; offset = f .offset }
 
-  pub passed-bytes : c .byte < 256 → TransferBytes t → TransferBytes (byteOf c t)
+  pub passed-bytes : c .byte < 256 → TransferBytes t → TransferBytes (bytePassed c t)
   unfolding passed
   passed-bytes h i =
       record {

@@ -1,8 +1,8 @@
 pub mod Carries
 pub mod Exits
-pub mod Going
+pub mod BetweenTurns
 pub mod Handshakes
-pub mod Kept
+pub mod ReadBackOfTransfer
 pub mod Looked
 pub mod Runs
 pub mod ShakeParts

@@ -13,7 +13,7 @@ use borrow.Author.Tests.{lt-ltb, le-ltb}
 use Rattle.rules.specs.State.{Transfer}
 use Rattle.rules.specs.StepC.{Settling, canMove, move}
 use Rattle.rules.specs.declared.chip.Conditions.{Conditions}
-use Rattle.settling.specs.Parts.{movable, carried, movedBy}
+use Rattle.settling.specs.Blocks.{movable, carried, movedBy}
 
 carried-none : (o : Bool) (t : Transfer) → carried o 0 t ≡ t
 unfolding carried

@@ -7,7 +7,7 @@ use lib.ListN.{take}
 use Rattle.rules.specs.State.{Transfer}
 use Rattle.rules.specs.StepC.{Settling, storedBy, handshake}
 use Rattle.rules.specs.declared.chip.Conditions.{Conditions}
-use Rattle.settling.specs.Parts.{passed, acknowledged}
+use Rattle.settling.specs.Blocks.{passed, acknowledged}
 
 -- inbound, where nothing is stored, nothing changes
 held-same : {q q′ : List ℕ} (t : Transfer) → q ≡ q′ → _≡_ {A = Transfer} (record { host = t .host; scsi = q; counter = t .counter; offset = t .offset; ack = t .ack; last = t .last }) (record { host = t .host; scsi = q′; counter = t .counter; offset = t .offset; ack = t .ack; last = t .last })

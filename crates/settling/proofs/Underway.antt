@@ -11,7 +11,7 @@ use Rattle.rules.specs.Counter.{counterSize, counted}
 use Rattle.rules.specs.StepC.{Settling, canMove, move, canHandshake, handshake, turn, settle, turns}
 use Rattle.rules.specs.declared.chip.Conditions.{Conditions}
 use Rattle.rules.proofs.Rest.{Counts, Report, acksLeft, measure-small, move-inbound, synchronous-offset, asynchronous-ack, turn-moves, turn-handshakes, settle-enough, settle-rests, counts-start, counts-move, counts-handshake, acks-left-small, report}
-use Rattle.settling.specs.Parts.{startOf}
+use Rattle.settling.specs.Blocks.{startOf}
 
 module _ (c : Conditions) (s : Settling) where
   move-host : canMove c (s .transfer) ≡ true → length (s .transfer .host) ≤ 128 → length ((move c s) .transfer .host) ≤ 128

@@ -1,4 +1,4 @@
 pub mod Looks
-pub mod Parts
+pub mod Blocks
 pub mod Settles
 pub mod Steps

@@ -5,7 +5,7 @@ use mathlib.Core.List.{List}
 use Rattle.rules.specs.StepC.{Settling, settle, turns}
 use Rattle.rules.specs.declared.chip.Conditions.{Conditions}
 use Rattle.fifos.specs.Fifos.{sentOf}
-use Rattle.settling.specs.Parts.{startOf}
+use Rattle.settling.specs.Blocks.{startOf}
 use Rattle.rules.specs.Changed.{withTransfer}
 use Rattle.image.specs.Image.{imageOf, stateAt}
 use Rattle.settling.specs.declared.Told.{Told}

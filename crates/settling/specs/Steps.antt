@@ -9,7 +9,7 @@ use Rattle.rules.specs.StepC.{storedBy}
 use Rattle.rules.specs.declared.chip.Conditions.{Conditions}
 use Rattle.fifos.specs.declared.sent.Sent.{Sent}
 use Rattle.fifos.specs.Fifos.{sentView, sentOf}
-use Rattle.settling.specs.Parts.{movable, carried, passed, acknowledged}
+use Rattle.settling.specs.Blocks.{movable, carried, passed, acknowledged}
 use Rattle.rules.specs.Changed.{withTransfer}
 use Rattle.image.specs.Image.{imageOf, stateAt}
 
@@ -23,8 +23,8 @@ abbrev pub sentWith : Conditions → Transfer → Sent → Sent
 sentWith c t v = sentOf (cond (c .outbound) (sentView v ++ take 1 (t .scsi)) (sentView v))
 
 -- the byte of a handshake, then its ACK
-abbrev pub byteOf : Conditions → Transfer → Transfer
-byteOf c t = passed (c .outbound) (storedBy c) t
+abbrev pub bytePassed : Conditions → Transfer → Transfer
+bytePassed c t = passed (c .outbound) (storedBy c) t
 
 abbrev pub shakenOf : Conditions → Transfer → Transfer
-shakenOf c t = acknowledged (c .synchronous) (byteOf c t)
+shakenOf c t = acknowledged (c .synchronous) (bytePassed c t)

@@ -5,7 +5,7 @@ ghost use Prim.Native.Nat.{_+_, _≤_, min};
 ghost use lib.ListN.{length};
 ghost use Rattle.rules.specs.Changed.{withTransfer};
 ghost use Rattle.image.specs.Image.{IsImage, imageOf, stateAt};
-ghost use Rattle.settling.specs.Parts.{movable, carried};
+ghost use Rattle.settling.specs.Blocks.{movable, carried};
 ghost use Rattle.settling.specs.Steps.{Moves};
 use datapath::copies::wide;
 use datapath::host::host_popped;

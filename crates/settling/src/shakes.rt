@@ -8,8 +8,8 @@ ghost use Rattle.rules.specs.StepC.{canSynchronous, canAsynchronous, canHandsha
 ghost use Rattle.fifos.specs.Fifos.{SentTidy};
 ghost use Rattle.rules.specs.Changed.{withTransfer};
 ghost use Rattle.image.specs.Image.{IsImage, imageOf, stateAt};
-ghost use Rattle.settling.specs.Parts.{passed, acknowledged};
-ghost use Rattle.settling.specs.Steps.{sentWith, byteOf, shakenOf};
+ghost use Rattle.settling.specs.Blocks.{passed, acknowledged};
+ghost use Rattle.settling.specs.Steps.{sentWith, bytePassed, shakenOf};
 use datapath::counts::acknowledged;
 use datapath::counts::counter_counted;
 use datapath::scsi::scsi_pushed;
@@ -86,7 +86,7 @@ fn byte_passed(m: &mut Image, c: Conditions, sent: Sent) -> Sent
     requires { ⌜ canHandshake c ((stateAt (now m)) .transfer) ≡ true ⌝ }
     requires { ⌜ SentTidy sent ⌝ }
     requires { ⌜ sent .count < 8 ⌝ }
-    ensures { λ r. ⌜ (r ≡ sentWith c ((stateAt (now (m .entry))) .transfer) sent) × (now (m .exit) ≡ imageOf (withTransfer (byteOf c ((stateAt (now (m .entry))) .transfer)) (stateAt (now (m .entry))))) ⌝ }
+    ensures { λ r. ⌜ (r ≡ sentWith c ((stateAt (now (m .entry))) .transfer) sent) × (now (m .exit) ≡ imageOf (withTransfer (bytePassed c ((stateAt (now (m .entry))) .transfer)) (stateAt (now (m .entry))))) ⌝ }
 {
     if c.outbound {
         let b = byte_sent(m);

@@ -1,18 +1,30 @@
 // The stack: document 01, "35Dh uses the place the pointer names, then the pointer goes up one, modulo 32 with ENSTK32, else
 // modulo 16 with bit 4 ignored and then 0."
 ghost use mathlib.Core.Path.{_≡_};
-ghost use Rattle.rules.specs.Stack.{stackPlace, stackByte, pointerAfter, stackRead, stackWritten, pointed};
+ghost use Prim.Native.Nat.{_+_, _%_};
+ghost use Rattle.rules.specs.Stack.{stackSize, stackPlace, stackByte, pointerAfter, stackRead, stackWritten, pointed};
 use rules::chip::Stack;
+
+// The place that a pointer names.
+pub fn place_of(enstk32: bool, pointer: u8) -> u8
+    ensures { λ r. ⌜ r ≡ pointer % stackSize enstk32 ⌝ }
+{
+    if enstk32 { pointer % 32 } else { pointer % 16 }
+}
+
+// The pointer after it.
+pub fn next_of(enstk32: bool, pointer: u8) -> u8
+    ensures { λ r. ⌜ r ≡ (pointer % stackSize enstk32 + 1) % stackSize enstk32 ⌝ }
+{
+    let at = place_of(enstk32, pointer);
+    place_of(enstk32, at + 1)
+}
 
 // The place that 35Dh uses.
 pub fn stack_place(enstk32: bool, s: Stack) -> u8
     ensures { λ r. ⌜ r ≡ stackPlace enstk32 s ⌝ }
 {
-    if enstk32 {
-        s.pointer % 32
-    } else {
-        s.pointer % 16
-    }
+    place_of(enstk32, s.pointer)
 }
 
 // What a read of 35Dh gives.
@@ -27,12 +39,7 @@ pub fn stack_byte(enstk32: bool, s: Stack) -> u8
 pub fn pointer_after(enstk32: bool, s: Stack) -> u8
     ensures { λ r. ⌜ r ≡ pointerAfter enstk32 s ⌝ }
 {
-    let at = stack_place(enstk32, s);
-    if enstk32 {
-        (at + 1) % 32
-    } else {
-        (at + 1) % 16
-    }
+    next_of(enstk32, s.pointer)
 }
 
 // The stack after a read of 35Dh.

@@ -17,9 +17,9 @@ use Rattle.rules.specs.declared.codes.Code.the-variants.{Malformed}
 use Rattle.rules.proofs.Ranges.{step-fits, step-bytes}
 use Rattle.image.specs.Image.{imageOf, stateAt, IsImage}
 use Rattle.image.proofs.ReadBack.{read-back}
-use Rattle.chips.specs.Parts.{Stored}
-use Rattle.effects.proofs.Going.{image-is, state-is}
-use Rattle.event.specs.Given.{Gives}
+use Rattle.chips.specs.HeadRuns.{Stored}
+use Rattle.effects.proofs.ImageOnward.{image-is, state-is}
+use Rattle.event.specs.Outcomes.{Gives}
 use Rattle.event.specs.declared.stepping.Reply.{Reply}
 use Rattle.step.specs.declared.Returned.{Returned}
 use Rattle.step.specs.Outcomes.{returnedOf, IsStep}

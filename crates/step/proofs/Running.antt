@@ -13,8 +13,8 @@ use Rattle.rules.specs.Step.{step, answer, after, answers}
 use Rattle.rules.proofs.Ranges.{StepFits, step-fits, after-fits, after-bytes}
 use Rattle.laws.proofs.Lists.{padded-length, take-clamped}
 use Rattle.image.specs.Image.{imageOf, stateAt, IsImage}
-use Rattle.effects.proofs.Going.{image-is, state-is}
-use Rattle.event.specs.Given.{Gives}
+use Rattle.effects.proofs.ImageOnward.{image-is, state-is}
+use Rattle.event.specs.Outcomes.{Gives}
 use Rattle.event.specs.declared.stepping.Reply.{Reply}
 use Rattle.step.specs.Runs.{recordAt, recordsOf, joined, IsTurn}
 

@@ -13,6 +13,7 @@ use crate::answers::store_at;
 use event::stepping::stepped;
 use rules::chip::Chip;
 use rules::codes::Code;
+use rules::records::ANSWER_SIZE;
 
 // What a call returns.
 pub struct Returned {
@@ -50,7 +51,7 @@ pub fn step(c: Chip, bytes: &[u8], answer: &mut [u8]) -> Returned
     ensures { λ r. ⌜ IsStep c (now (bytes .entry)) (now (answer .entry)) (now (answer .exit)) r ⌝ }
 {
     let tidy = reset::tidied(c);
-    if answer.len() == 16 {
+    if answer.len() == ANSWER_SIZE {
         return stepped_over(tidy, bytes, answer);
     }
     Returned {

@@ -12,6 +12,8 @@ use image::layout::Image;
 use image::layout::SIZE;
 use laws::smaller;
 use rules::chip::Chip;
+use rules::records::ANSWER_SIZE;
+use rules::records::RECORD_SIZE;
 
 // Record i, and its answer in its place; the last record ends where the slice does.
 fn turn(m: &mut Image, records: &[u8], answers: &mut [u8], i: usize)
@@ -20,18 +22,21 @@ fn turn(m: &mut Image, records: &[u8], answers: &mut [u8], i: usize)
     requires { ⌜ 16 * i + 16 ≤ length (now answers) ⌝ }
     ensures { λ _. ⌜ IsTurn (now (m .entry)) (now (records .entry)) (now (answers .entry)) i (now (m .exit)) (now (answers .exit)) ⌝ }
 {
-    let from = 4 * i;
-    let end = smaller(from + 4, records.len());
+    let from = RECORD_SIZE * i;
+    let end = smaller(from + RECORD_SIZE, records.len());
     let reply = stepped(m, &records[from..end]);
     let b = reply.answer;
-    store_at(b, answers, 16 * i);
+    store_at(b, answers, ANSWER_SIZE * i);
 }
 
 // As many records as there is room for whole answers; the chip is laid out once and taken up again at the end.
 pub fn run(c: Chip, records: &[u8], answers: &mut [u8]) -> Ran
     ensures { λ r. ⌜ IsRun c (now (records .entry)) (now (answers .entry)) (now (answers .exit)) r ⌝ }
 {
-    let n = smaller((records.len() + 3) / 4, answers.len() / 16);
+    let n = smaller(
+        (records.len() + 3) / RECORD_SIZE,
+        answers.len() / ANSWER_SIZE,
+    );
     let chip = tidied(c);
     let mut m = [0u8; SIZE];
     chips::store(chip, &mut m);

@@ -10,10 +10,12 @@ ghost use Rattle.rules.specs.Answers.{answerBytes};
 use laws::bit_of;
 use rules::code_number;
 use rules::codes::Code;
+use rules::records::ANSWER_SIZE;
 use rules::records::Answer;
 use rules::records::Decoded;
 use rules::records::Event;
 use rules::records::Lines;
+use rules::records::RECORD_SIZE;
 
 // The 24 bits after kind and offset.
 pub fn payload(b1: u8, b2: u8, b3: u8) -> u32
@@ -106,7 +108,7 @@ fn fields(kind: u8, offset: u8, p: u32) -> Decoded
 pub fn decode(bytes: &[u8]) -> Decoded
     ensures { λ r. ⌜ r ≡ decode (now (bytes .entry)) ⌝ }
 {
-    if bytes.len() == 4 {
+    if bytes.len() == RECORD_SIZE {
         let first = bytes[0];
         let p = payload(bytes[1], bytes[2], bytes[3]);
         fields(first >> 5, first & 31, p)
@@ -158,7 +160,7 @@ fn offset_byte(offset: u8, scsi: u8) -> u8
 }
 
 // The sixteen bytes of an answer.
-pub fn answer_bytes(a: Answer) -> [u8; 16]
+pub fn answer_bytes(a: Answer) -> [u8; ANSWER_SIZE]
     ensures { λ r. ⌜ r ≡ answerBytes a ⌝ }
 {
     let code = a.code;

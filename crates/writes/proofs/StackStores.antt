@@ -67,13 +67,6 @@ placeOf w p = p % stackSize w
 abbrev pub nextOf : Bool → ℕ → ℕ
 nextOf w p = (p % stackSize w + 1) % stackSize w
 
-below : (w : Bool) (p : ℕ) → placeOf w p < 32
-below true p = omega arith
-below false p = omega arith
-
-pub place-below : {k : ℕ} (w : Bool) (p : ℕ) → k ≡ placeOf w p → k < 32
-place-below w p e = rw e (below w p)
-
 place-at : (m : List ℕ) → placeOf (wideAt m) (pointerAt m) ≡ stackPlace (wideAt m) ((stateAt m) .stack)
 unfolding stateAt stackPlace
 place-at m = refl

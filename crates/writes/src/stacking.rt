@@ -1,29 +1,15 @@
 // The stack in place: "35Dh uses the place the pointer names, then the pointer goes up one, modulo 32 with ENSTK32, else
 // modulo 16 with bit 4 ignored and then 0."
 ghost use mathlib.Core.Path.{_≡_};
-ghost use Prim.Native.Nat.{_+_, _%_};
-ghost use Rattle.rules.specs.Stack.{stackSize, stackRead, stackWritten, pointed};
+ghost use Rattle.rules.specs.Stack.{stackRead, stackWritten, pointed};
 ghost use Rattle.rules.specs.Changed.{withStack};
 ghost use Rattle.image.specs.Image.{IsImage, imageOf, stateAt};
 use image::bits::enstk32;
 use image::layout::Image;
 use image::layout::POINTER;
 use image::layout::STACK_BYTES;
-
-// The place that a pointer names.
-fn place_of(enstk32: bool, pointer: u8) -> u8
-    ensures { λ r. ⌜ r ≡ pointer % stackSize enstk32 ⌝ }
-{
-    if enstk32 { pointer % 32 } else { pointer % 16 }
-}
-
-// The pointer after it.
-fn next_of(enstk32: bool, pointer: u8) -> u8
-    ensures { λ r. ⌜ r ≡ (pointer % stackSize enstk32 + 1) % stackSize enstk32 ⌝ }
-{
-    let at = place_of(enstk32, pointer);
-    place_of(enstk32, at + 1)
-}
+use stack::next_of;
+use stack::place_of;
 
 // A write of 35Dh.
 pub fn pushed(m: &mut Image, value: u8)

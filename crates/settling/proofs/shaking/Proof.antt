@@ -7,7 +7,7 @@ use borrow.Author.Needs.{needs}
 use Rattle.rules.specs.StepC.{canHandshake}
 use Rattle.rules.proofs.Rest.{measure}
 use Rattle.image.specs.Image.{stateAt}
-use Rattle.settling.proofs.Going.{Between, Going, started, moved-on, shaken-on, moves-fit, room, settles}
+use Rattle.settling.proofs.BetweenTurns.{Between, Going, started, moved-on, shaken-on, moves-fit, room, settles}
 use Rattle.settling.proofs.shaking.Statement.{statement}
 use Rattle.settling.proofs.shaking.Tie as tie
 

@@ -4,7 +4,7 @@ use lib.Dec.{eqb}
 use lib.ListN.{getD}
 use Rattle.rules.specs.Chips.{pathOf}
 use Rattle.image.specs.Layout.{ackPlace, lastPlace, offsetPlace}
-use Rattle.chips.proofs.Held.{scsi-held, host-held, scsi-counted, host-counted}
+use Rattle.chips.proofs.FifosAsChip.{scsi-held, host-held, scsi-counted, host-counted}
 use Rattle.chips.proofs.taken.path_at.Statement.{statement}
 use Rattle.chips.proofs.taken.path_at.Tie as tie
 

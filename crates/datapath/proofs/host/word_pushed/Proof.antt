@@ -8,18 +8,18 @@ use Rattle.rules.specs.State.{State}
 use Rattle.image.specs.Image.{imageOf, stateAt}
 use Rattle.rules.specs.Changed.{withHost}
 use Rattle.image.specs.Layout.{hostBytesPlace, hostCountPlace}
-use Rattle.datapath.specs.Ready.{Placed}
+use Rattle.datapath.specs.Fits.{FitsPlaces}
 use Rattle.datapath.proofs.Fronts.{counted, with-host, placed-at}
 use Rattle.datapath.proofs.Ends.{host-one-more}
 use Rattle.datapath.proofs.host.word_pushed.Statement.{statement}
 use Rattle.datapath.proofs.host.word_pushed.Tie as tie
 
 -- after the first byte of two
-module _ {m : List ℕ} {s : State} (p : Placed s) (e : m ≡ imageOf s) (b : ℕ) (h : getD m hostCountPlace 0 < 127) {a : List ℕ} (f : a ≡ set (set m (hostBytesPlace + getD m hostCountPlace 0) b) hostCountPlace (getD m hostCountPlace 0 + 1)) where
+module _ {m : List ℕ} {s : State} (p : FitsPlaces s) (e : m ≡ imageOf s) (b : ℕ) (h : getD m hostCountPlace 0 < 127) {a : List ℕ} (f : a ≡ set (set m (hostBytesPlace + getD m hostCountPlace 0) b) hostCountPlace (getD m hostCountPlace 0 + 1)) where
   low-first : a ≡ imageOf (withHost (s .transfer .host ++ (b ∷ [])) s)
   low-first = f ∙ host-one-more s e p b (omega arith)
 
-  low-placed : Placed (withHost (s .transfer .host ++ (b ∷ [])) s)
+  low-placed : FitsPlaces (withHost (s .transfer .host ++ (b ∷ [])) s)
   low-placed =
       let n : getD m hostCountPlace 0 ≡ length (s .transfer .host) = counted p e in
       with-host s (s .transfer .host ++ (b ∷ [])) p (simp length-append (omega arith))

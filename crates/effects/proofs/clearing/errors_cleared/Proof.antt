@@ -1,7 +1,7 @@
 use mathlib.Core.Bool.{false}
 use borrow.Author.Needs.{needs}
 use Rattle.rules.specs.declared.records.Event.the-variants.{Write}
-use Rattle.effects.proofs.Reached.{start, flagged, acts}
+use Rattle.effects.proofs.StatesOfA.{start, flagged, acts}
 use Rattle.effects.proofs.Effects.{leaves, clrserr}
 use Rattle.effects.proofs.clearing.errors_cleared.Statement.{statement}
 use Rattle.effects.proofs.clearing.errors_cleared.Tie as tie

@@ -3,7 +3,7 @@ use mathlib.Core.Bool.{false}
 use borrow.Author.Needs.{needs}
 use Rattle.rules.specs.Map.{table, writtenAt}
 use Rattle.rules.specs.declared.records.Event.the-variants.{Write}
-use Rattle.effects.proofs.Reached.{start, there, stored, flagged, unlatched, acts}
+use Rattle.effects.proofs.StatesOfA.{start, there, stored, flagged, unlatched, acts}
 use Rattle.effects.proofs.Effects.{leaves, clrsint1}
 use Rattle.effects.proofs.clearing.interrupts_cleared.Statement.{statement}
 use Rattle.effects.proofs.clearing.interrupts_cleared.Tie as tie

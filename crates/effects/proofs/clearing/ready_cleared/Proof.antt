@@ -1,7 +1,7 @@
 use mathlib.Core.Bool.{false}
 use borrow.Author.Needs.{needs}
 use Rattle.rules.specs.declared.records.Event.the-variants.{Write, WordRead}
-use Rattle.effects.proofs.Reached.{start, there, flagged, unlatched, acts}
+use Rattle.effects.proofs.StatesOfA.{start, there, flagged, unlatched, acts}
 use Rattle.effects.proofs.Effects.{leaves, clrsint0}
 use Rattle.effects.proofs.clearing.ready_cleared.Statement.{statement}
 use Rattle.effects.proofs.clearing.ready_cleared.Tie as tie

@@ -8,7 +8,7 @@ use Rattle.rules.specs.Reads.{valueRead}
 use Rattle.rules.specs.Records.{linesOf, payloadOf}
 use Rattle.rules.specs.declared.records.Event.the-variants.{WordRead}
 use Rattle.effects.proofs.Driven.{leaves-driven}
-use Rattle.effects.proofs.Reached.{start, there, driven, flagged, acts-with}
+use Rattle.effects.proofs.StatesOfA.{start, there, driven, flagged, acts-with}
 use Rattle.effects.proofs.driving.drive_in.Statement.{statement}
 use Rattle.effects.proofs.driving.drive_in.Tie as tie
 

@@ -5,7 +5,7 @@ use Rattle.rules.specs.Events.{ticksOf}
 use Rattle.rules.specs.Reads.{valueRead}
 use Rattle.rules.specs.declared.records.Event.the-variants.{WordRead}
 use Rattle.effects.proofs.Driven.{leaves-ticked}
-use Rattle.effects.proofs.Reached.{start, flagged, acts-with}
+use Rattle.effects.proofs.StatesOfA.{start, flagged, acts-with}
 use Rattle.effects.proofs.driving.ticked.Statement.{statement}
 use Rattle.effects.proofs.driving.ticked.Tie as tie
 

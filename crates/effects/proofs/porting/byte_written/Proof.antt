@@ -13,7 +13,7 @@ use Rattle.image.specs.Layout.{hostCountPlace}
 use Rattle.effects.proofs.Coding.{byte-write-tests, is-shut, is-full, is-open}
 use Rattle.effects.proofs.Effects.{port-leaves}
 use Rattle.effects.proofs.Endings.{acts-refused}
-use Rattle.effects.proofs.Reached.{start, there, carried, flagged, acts}
+use Rattle.effects.proofs.StatesOfA.{start, there, carried, flagged, acts}
 use Rattle.effects.proofs.porting.byte_written.Statement.{statement}
 use Rattle.effects.proofs.porting.byte_written.Tie as tie
 

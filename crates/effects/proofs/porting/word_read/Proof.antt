@@ -13,7 +13,7 @@ use Rattle.image.specs.Layout.{hostCountPlace}
 use Rattle.effects.proofs.Coding.{word-read-tests, is-shut, is-short, is-open}
 use Rattle.effects.proofs.Driven.{leaves-off}
 use Rattle.effects.proofs.Endings.{acts-refused}
-use Rattle.effects.proofs.Reached.{start, there, carried, flagged, acts-with}
+use Rattle.effects.proofs.StatesOfA.{start, there, carried, flagged, acts-with}
 use Rattle.effects.proofs.porting.word_read.Statement.{statement}
 use Rattle.effects.proofs.porting.word_read.Tie as tie
 

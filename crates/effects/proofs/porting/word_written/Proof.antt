@@ -14,7 +14,7 @@ use Rattle.image.specs.Layout.{hostCountPlace}
 use Rattle.effects.proofs.Coding.{word-write-tests, is-shut, is-full, is-open}
 use Rattle.effects.proofs.Driven.{leaves-word}
 use Rattle.effects.proofs.Endings.{acts-refused}
-use Rattle.effects.proofs.Reached.{start, there, carried, flagged, acts-with}
+use Rattle.effects.proofs.StatesOfA.{start, there, carried, flagged, acts-with}
 use Rattle.effects.proofs.porting.word_written.Statement.{statement}
 use Rattle.effects.proofs.porting.word_written.Tie as tie
 

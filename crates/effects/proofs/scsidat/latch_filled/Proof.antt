@@ -2,8 +2,8 @@ use mathlib.Core.Path.{refl}
 use borrow.Author.Needs.{needs}
 use Rattle.rules.specs.Map.{table, writtenAt}
 use Rattle.rules.specs.declared.records.Event.the-variants.{Write, WordRead}
-use Rattle.effects.proofs.Going.{acked-is}
-use Rattle.effects.proofs.Reached.{start, there, carried, stored, flagged, acts}
+use Rattle.effects.proofs.ImageOnward.{acked-is}
+use Rattle.effects.proofs.StatesOfA.{start, there, carried, stored, flagged, acts}
 use Rattle.effects.proofs.Effects.{fills, latch-accessed}
 use Rattle.effects.proofs.scsidat.latch_filled.Statement.{statement}
 use Rattle.effects.proofs.scsidat.latch_filled.Tie as tie

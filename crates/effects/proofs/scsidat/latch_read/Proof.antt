@@ -6,7 +6,7 @@ use Rattle.rules.specs.declared.map.Register.the-variants.{SCSIDAT}
 use Rattle.rules.specs.declared.records.Event.the-variants.{Read}
 use Rattle.image.specs.Image.{imageOf, stateAt}
 use Rattle.image.proofs.AtPlaces.{at-bus}
-use Rattle.effects.proofs.Going.{acked-is}
+use Rattle.effects.proofs.ImageOnward.{acked-is}
 use Rattle.effects.proofs.ReadLaws.{read-done, unheld-image, read-acts}
 use Rattle.effects.proofs.ReadParts.{latch-left, latch-value, latch-accessed}
 use Rattle.effects.proofs.scsidat.latch_read.Statement.{statement}

@@ -1,7 +1,7 @@
 use mathlib.Core.Bool.{false}
 use borrow.Author.Needs.{needs}
 use Rattle.rules.specs.declared.records.Event.the-variants.{WordRead}
-use Rattle.effects.proofs.Reached.{start, there, carried, flagged, acts}
+use Rattle.effects.proofs.StatesOfA.{start, there, carried, flagged, acts}
 use Rattle.effects.proofs.Effects.{leaves, stcnt1}
 use Rattle.effects.proofs.writing.middle_counter.Statement.{statement}
 use Rattle.effects.proofs.writing.middle_counter.Tie as tie

@@ -2,7 +2,7 @@ use mathlib.Core.Path.{refl}
 use mathlib.Core.Bool.{false}
 use borrow.Author.Needs.{needs}
 use Rattle.rules.specs.declared.records.Event.the-variants.{WordRead}
-use Rattle.effects.proofs.Reached.{start, there, stored, flagged, acts}
+use Rattle.effects.proofs.StatesOfA.{start, there, stored, flagged, acts}
 use Rattle.effects.proofs.Effects.{leaves}
 use Rattle.effects.proofs.writing.plain_written.Statement.{statement}
 use Rattle.effects.proofs.writing.plain_written.Tie as tie

@@ -1,7 +1,7 @@
 use mathlib.Core.Bool.{false}
 use borrow.Author.Needs.{needs}
 use Rattle.rules.specs.declared.records.Event.the-variants.{WordRead}
-use Rattle.effects.proofs.Reached.{start, there, stacked, flagged, acts}
+use Rattle.effects.proofs.StatesOfA.{start, there, stacked, flagged, acts}
 use Rattle.effects.proofs.Effects.{leaves, stack}
 use Rattle.effects.proofs.writing.stack_pushed.Statement.{statement}
 use Rattle.effects.proofs.writing.stack_pushed.Tie as tie

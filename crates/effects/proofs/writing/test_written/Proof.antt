@@ -8,7 +8,7 @@ use Rattle.rules.specs.declared.records.Event.the-variants.{Write, WordRead}
 use Rattle.image.specs.Image.{stateAt}
 use Rattle.effects.proofs.Effects.{test-leaves}
 use Rattle.effects.proofs.Endings.{acts-refused}
-use Rattle.effects.proofs.Reached.{start, flagged, acts}
+use Rattle.effects.proofs.StatesOfA.{start, flagged, acts}
 use Rattle.effects.proofs.WriteCodes.{scsitest, test, test-refused}
 use Rattle.effects.proofs.writing.test_written.Statement.{statement}
 use Rattle.effects.proofs.writing.test_written.Tie as tie

@@ -4,7 +4,7 @@ use borrow.Author.Needs.{needs}
 use Rattle.rules.specs.Map.{table, writtenAt}
 use Rattle.rules.specs.declared.records.Event.the-variants.{WordRead}
 use Rattle.effects.proofs.Cleared.{channel-image, both-cleared}
-use Rattle.effects.proofs.Reached.{start, there, carried, stored, flagged, acts}
+use Rattle.effects.proofs.StatesOfA.{start, there, carried, stored, flagged, acts}
 use Rattle.effects.proofs.Effects.{leaves, sxfrctl0}
 use Rattle.effects.proofs.writing.transfer_control.Statement.{statement}
 use Rattle.effects.proofs.writing.transfer_control.Tie as tie

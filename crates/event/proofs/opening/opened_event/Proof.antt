@@ -8,7 +8,7 @@ use Rattle.rules.specs.declared.records.Decoded.the-variants.{Well}
 use Rattle.rules.specs.declared.records.Lines.{Lines}
 use Rattle.image.specs.Image.{stateAt}
 use Rattle.effects.specs.Acting.{Acts}
-use Rattle.event.proofs.Taken.{four, event-fits, lines-taken}
+use Rattle.event.proofs.RecordTells.{four, event-fits, lines-taken}
 use Rattle.event.proofs.opening.opened_event.Statement.{statement}
 use Rattle.event.proofs.opening.opened_event.Tie as tie
 

@@ -13,7 +13,7 @@ use Rattle.image.specs.Image.{stateAt}
 use Rattle.image.specs.Layout.{simode0Place, simode1Place}
 use Rattle.edges.specs.Since.{rstOf, reqOf, mismatchedOf}
 use Rattle.edges.proofs.Still.{rst-of, req-of, mismatched-of}
-use Rattle.event.specs.Given.{endedAs}
+use Rattle.event.specs.Outcomes.{endedAs}
 use Rattle.event.proofs.Starts as starts
 use Rattle.event.proofs.stepping.outcome_of.Statement.{statement}
 use Rattle.event.proofs.stepping.outcome_of.Tie as tie

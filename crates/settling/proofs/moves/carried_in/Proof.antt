@@ -4,7 +4,7 @@ use lib.ListN.{length}
 use denote.Ref.{now}
 use borrow.Author.Needs.{needs}
 use Rattle.image.specs.Image.{stateAt}
-use Rattle.settling.proofs.Kept.{long}
+use Rattle.settling.proofs.ReadBackOfTransfer.{long}
 use Rattle.settling.proofs.Carries.{host-held, behind-host, scsi-there, carried-in}
 use Rattle.settling.proofs.moves.carried_in.Statement.{statement}
 use Rattle.settling.proofs.moves.carried_in.Tie as tie

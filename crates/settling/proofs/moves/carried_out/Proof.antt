@@ -4,7 +4,7 @@ use lib.ListN.{length}
 use denote.Ref.{now}
 use borrow.Author.Needs.{needs}
 use Rattle.image.specs.Image.{stateAt}
-use Rattle.settling.proofs.Kept.{long}
+use Rattle.settling.proofs.ReadBackOfTransfer.{long}
 use Rattle.settling.proofs.Carries.{scsi-held, behind-scsi, host-there, carried-out}
 use Rattle.settling.proofs.moves.carried_out.Statement.{statement}
 use Rattle.settling.proofs.moves.carried_out.Tie as tie

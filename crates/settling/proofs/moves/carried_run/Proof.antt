@@ -1,7 +1,7 @@
 use mathlib.Core.Bool.{Bool}
 use mathlib.Core.Path.{sym, ap, _∙_}
 use denote.Ref.{now}
-use Rattle.settling.specs.Parts.{carried}
+use Rattle.settling.specs.Blocks.{carried}
 use Rattle.settling.proofs.Runs.{run-out, run-in}
 use Rattle.rules.specs.Changed.{withTransfer}
 use Rattle.image.specs.Image.{imageOf, stateAt}

@@ -5,11 +5,11 @@ use native.Mathlib.Nat.{le-refl}
 use denote.Ref.{now}
 use borrow.Author.Needs.{needs}
 use Rattle.rules.specs.State.{Transfer}
-use Rattle.settling.specs.Parts.{movable, carried}
+use Rattle.settling.specs.Blocks.{movable, carried}
 use Rattle.settling.proofs.Runs.{run-small}
 use Rattle.rules.specs.Changed.{withTransfer}
 use Rattle.image.specs.Image.{imageOf, stateAt}
-use Rattle.settling.proofs.Going.{carried-none}
+use Rattle.settling.proofs.BetweenTurns.{carried-none}
 use Rattle.settling.proofs.moves.moved.Statement.{statement}
 use Rattle.settling.proofs.moves.moved.Tie as tie
 

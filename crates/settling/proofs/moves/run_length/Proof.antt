@@ -6,7 +6,7 @@ use lib.ListN.{length}
 use denote.Ref.{now}
 use borrow.Author.Needs.{needs}
 use Rattle.image.specs.Image.{stateAt}
-use Rattle.settling.specs.Parts.{movable}
+use Rattle.settling.specs.Blocks.{movable}
 use Rattle.settling.proofs.Carries.{scsi-held, host-held}
 use Rattle.settling.proofs.moves.run_length.Statement.{statement}
 use Rattle.settling.proofs.moves.run_length.Tie as tie

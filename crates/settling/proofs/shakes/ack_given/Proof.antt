@@ -2,7 +2,7 @@ use mathlib.Core.Path.{sym, ap, _∙_}
 use mathlib.Core.Bool.{Bool}
 use denote.Ref.{now}
 use borrow.Author.Needs.{needs}
-use Rattle.settling.specs.Parts.{acknowledged}
+use Rattle.settling.specs.Blocks.{acknowledged}
 use Rattle.rules.specs.Changed.{withTransfer}
 use Rattle.image.specs.Image.{imageOf, stateAt}
 use Rattle.settling.proofs.Handshakes.{ack-pulse, ack-on}

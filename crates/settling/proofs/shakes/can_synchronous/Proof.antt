@@ -4,7 +4,7 @@ use borrow.Author.Needs.{needs}
 use Rattle.image.specs.Image.{stateAt}
 use Rattle.settling.proofs.Tests.{synchronous-by}
 use Rattle.settling.proofs.Carries.{scsi-held}
-use Rattle.settling.proofs.Kept.{offset-held}
+use Rattle.settling.proofs.ReadBackOfTransfer.{offset-held}
 use Rattle.settling.proofs.shakes.can_synchronous.Statement.{statement}
 use Rattle.settling.proofs.shakes.can_synchronous.Tie as tie
 

@@ -1,6 +1,7 @@
 use native.Mathlib.Omega.{arith}
 use borrow.Author.Needs.{needs}
-use Rattle.writes.proofs.StackStores.{place-below, pushed-image}
+use Rattle.stack.proofs.Places.{place-below}
+use Rattle.writes.proofs.StackStores.{pushed-image}
 use Rattle.writes.proofs.stacking.pushed.Statement.{statement}
 use Rattle.writes.proofs.stacking.pushed.Tie as tie
 

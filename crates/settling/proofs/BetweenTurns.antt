@@ -16,7 +16,7 @@ use Rattle.laws.proofs.Lists.{padded-take}
 use Rattle.fifos.specs.declared.sent.Sent.{Sent}
 use Rattle.fifos.specs.Fifos.{sentView, sentOf, SentTidy}
 use Rattle.fifos.proofs.Laws.{sent-count}
-use Rattle.settling.specs.Parts.{startOf, movable, carried, movedBy, passed, acknowledged}
+use Rattle.settling.specs.Blocks.{startOf, movable, carried, movedBy, passed, acknowledged}
 use Rattle.settling.proofs.ShakeParts.{shake-parts}
 use Rattle.settling.proofs.Runs.{run-none, run-keeps, run-ends}
 use Rattle.settling.proofs.Underway.{Underway, reports, begins, move-under, handshake-under, room-for-ack, at-end}
@@ -25,7 +25,7 @@ use Rattle.image.specs.Image.{imageOf, stateAt, IsImage}
 use Rattle.settling.specs.declared.Told.{Told}
 use Rattle.settling.specs.Steps.{Moves, sentWith, shakenOf}
 use Rattle.settling.specs.Settles.{Settles, endOf}
-use Rattle.settling.proofs.Kept.{kept}
+use Rattle.settling.proofs.ReadBackOfTransfer.{kept}
 
 -- no move leaves the data path as it is
 pub carried-none : (c : Conditions) (t : Transfer) → carried (c .outbound) 0 t ≡ t

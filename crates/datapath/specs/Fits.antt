@@ -7,7 +7,7 @@ use Rattle.rules.specs.Counter.{counterSize, counted, counterWith}
 use Rattle.rules.specs.Changed.{withCounter}
 
 -- the FIFOs, the stack and the counter fit their places
-pub record Placed (s : State) : Type 0 where
+pub record FitsPlaces (s : State) : Type 0 where
   pub host : length (s .transfer .host) ≤ 128
   pub scsi : length (s .transfer .scsi) ≤ 8
   pub stack : length (s .stack .bytes) ≡ 32

@@ -18,7 +18,7 @@ use Rattle.image.specs.Image.{imageOf, stateAt, IsImage}
 use Rattle.effects.specs.declared.Acted.{Acted}
 use Rattle.effects.specs.Acting.{Acts, doneWith}
 use Rattle.effects.proofs.Endings.{acts-done}
-use Rattle.effects.proofs.Going.{image-is, onward, a-fits, a-bytes}
+use Rattle.effects.proofs.ImageOnward.{image-is, onward, a-fits, a-bytes}
 
 pub record Reached (m : List ℕ) (t : State) : Type 0 where
   pub image : m ≡ imageOf t

@@ -3,9 +3,9 @@ use mathlib.Core.Path.{ap, _∙_}
 use native.Mathlib.Omega.{arith}
 use borrow.Author.Needs.{needs}
 use Rattle.rules.specs.Stack.{stackSize}
-use Rattle.writes.proofs.StackStores.{place-below}
-use Rattle.writes.proofs.stacking.next_of.Statement.{statement}
-use Rattle.writes.proofs.stacking.next_of.Tie as tie
+use Rattle.stack.proofs.Places.{place-below}
+use Rattle.stack.proofs.next_of.Statement.{statement}
+use Rattle.stack.proofs.next_of.Tie as tie
 
 add-place-of : tie.Need-add-place-of
 add-place-of c = omega (arith, place-below (c .before .args .enstk32) _ (c .place-of .ensures))
