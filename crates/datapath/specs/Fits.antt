@@ -1,10 +1,12 @@
 -- A state that fits the places of an image, and a state with one part of its data path another.
-use Prim.Native.Nat.{ℕ, _≤_, _<_}
+use Prim.Native.Nat.{ℕ, _≤_, _<_, _+_}
 use mathlib.Core.Path.{_≡_}
-use lib.ListN.{length}
+use mathlib.Core.List.{List}
+use lib.ListN.{length, getD, set}
 use Rattle.rules.specs.State.{State}
 use Rattle.rules.specs.Counter.{counterSize, counted, counterWith}
 use Rattle.rules.specs.Changed.{withCounter}
+use Rattle.image.specs.Layout.{scsiBytesPlace, scsiCountPlace}
 
 -- the FIFOs, the stack and the counter fit their places
 pub record FitsPlaces (s : State) : Type 0 where
@@ -19,3 +21,7 @@ counterWritten k v s = withCounter (counterWith k v (s .transfer .counter)) s
 
 abbrev pub counterCounted : State → State
 counterCounted s = withCounter (counted (s .transfer .counter)) s
+
+-- a byte behind those of the SCSI FIFO, of every array
+abbrev pub byteStored : ℕ → List ℕ → List ℕ
+byteStored b m = set (set m (scsiBytesPlace + getD m scsiCountPlace 0) b) scsiCountPlace (getD m scsiCountPlace 0 + 1)

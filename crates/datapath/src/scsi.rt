@@ -6,6 +6,7 @@ ghost use lib.ListN.{getD, drop};
 ghost use Rattle.image.specs.Image.{imageOf, stateAt, IsImage};
 ghost use Rattle.rules.specs.Changed.{withScsi, withOffset};
 ghost use Rattle.image.specs.Layout.{scsiCountPlace};
+ghost use Rattle.datapath.specs.Fits.{byteStored};
 use crate::copies::moved_down;
 use crate::copies::wide;
 use image::layout::Image;
@@ -13,15 +14,24 @@ use image::layout::OFFSET;
 use image::layout::SCSI_BYTES;
 use image::layout::SCSI_COUNT;
 
+// The byte in the first free place of the SCSI FIFO.
+pub fn byte_stored(m: &mut Image, byte: u8)
+    requires { ⌜ getD (now m) scsiCountPlace 0 < 8 ⌝ }
+    ensures { λ _. ⌜ now (m .exit) ≡ byteStored byte (now (m .entry)) ⌝ }
+{
+    let held = m[SCSI_COUNT];
+    let at = held as usize;
+    m[SCSI_BYTES + at] = byte;
+    m[SCSI_COUNT] = held + 1;
+}
+
 // One byte more.
 pub fn scsi_pushed(m: &mut Image, b: u8)
     requires { ⌜ IsImage (now m) ⌝ }
     requires { ⌜ getD (now m) scsiCountPlace 0 < 8 ⌝ }
     ensures { λ _. ⌜ now (m .exit) ≡ imageOf (withScsi ((stateAt (now (m .entry))) .transfer .scsi ++ (b ∷ [])) (stateAt (now (m .entry)))) ⌝ }
 {
-    let n = wide(m[SCSI_COUNT]);
-    m[SCSI_BYTES + n] = b;
-    m[SCSI_COUNT] = (n + 1) as u8;
+    byte_stored(m, b);
 }
 
 // The k oldest taken off.

@@ -25,7 +25,8 @@ use Rattle.image.specs.Layout.{ackPlace, offsetPlace, quietPlace, scsiBytesPlac
 use Rattle.laws.proofs.Lists.{padded-push, padded-length}
 use Rattle.edges.specs.Components.{scsiseqB, sxfrctl0B, scsisigB, registersB, transferB, storedB, countedB}
 use Rattle.edges.specs.Room.{Room}
-use Rattle.edges.specs.Stored.{registersStored, byteStored, countStored, statusStored}
+use Rattle.edges.specs.Stored.{registersStored, countStored, statusStored}
+use Rattle.datapath.specs.Fits.{byteStored}
 use Rattle.edges.proofs.Laws.{registers-kept}
 
 -- what stands in the places of an image

@@ -20,10 +20,6 @@ registersStored reset bad free m =
     set (set (set m scsiseqPlace (scsiseqByte (scsiseqB reset q))) sxfrctl0Place (sxfrctl0Byte (sxfrctl0B reset x))) scsisigPlace
     (scsisigByte (scsisigB (reset || free) (bad && q .enautoatnp) g))
 
--- a byte behind those of the SCSI FIFO
-abbrev pub byteStored : ℕ → List ℕ → List ℕ
-byteStored b m = set (set m (scsiBytesPlace + getD m scsiCountPlace 0) b) scsiCountPlace (getD m scsiCountPlace 0 + 1)
-
 -- the offset and the automatic ACK
 abbrev pub countStored : Bool → Bool → Bool → List ℕ → List ℕ
 countStored zeroed counted released m =

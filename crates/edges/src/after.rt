@@ -9,9 +9,11 @@ ghost use Rattle.rules.specs.Seen.{dataSeen};
 ghost use Rattle.image.specs.Image.{imageOf, stateAt, IsImage, scsisigByte, statusOf, statusByte};
 ghost use Rattle.edges.specs.Components.{scsiseqB, sxfrctl0B, scsisigB, transferB, statusB};
 ghost use Rattle.edges.specs.Room.{Room};
-ghost use Rattle.edges.specs.Stored.{registersStored, byteStored, countStored, statusStored};
+ghost use Rattle.edges.specs.Stored.{registersStored, countStored, statusStored};
+ghost use Rattle.datapath.specs.Fits.{byteStored};
 ghost use Rattle.image.specs.Layout.{offsetPlace, scsiCountPlace};
 use crate::edges::Edges;
+use datapath::scsi::byte_stored;
 use image::bits::automatic_ack;
 use image::bits::enautoatnp;
 use image::bus::data_seen;
@@ -129,17 +131,6 @@ pub fn byte_seen(m: &Image, stored: bool) -> u8
     ensures { λ b. ⌜ b ≡ cond stored (dataSeen (stateAt (now (m .entry)))) 0 ⌝ }
 {
     if stored { data_seen(m) } else { 0 }
-}
-
-// The byte in the first free place of the SCSI FIFO.
-pub fn byte_stored(m: &mut Image, byte: u8)
-    requires { ⌜ getD (now m) scsiCountPlace 0 < 8 ⌝ }
-    ensures { λ _. ⌜ now (m .exit) ≡ byteStored byte (now (m .entry)) ⌝ }
-{
-    let held = m[SCSI_COUNT];
-    let at = held as usize;
-    m[SCSI_BYTES + at] = byte;
-    m[SCSI_COUNT] = held + 1;
 }
 
 // "an inbound byte is stored"
