@@ -1,3 +1,3 @@
 pub mod Printing
-pub mod Turning
+pub mod OneRead
 pub mod Waiting

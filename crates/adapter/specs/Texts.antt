@@ -11,7 +11,17 @@ use Rattle.hex.specs.Hex.{linesOf}
 use Rattle.step.specs.Runs.{recordsOf, recordsIn, joined}
 use Rattle.adapter.specs.declared.Printed.{Printed}
 use Rattle.adapter.specs.declared.Received.{Received}
-use Rattle.adapter.specs.declared.Turned.{Turned}
+use Rattle.adapter.specs.declared.AfterRead.{AfterRead}
+
+-- what one read can bring, behind a piece of a record: 1,025 records, their answers and their lines
+abbrev pub inputSize : ℕ
+inputSize = 4100
+
+abbrev pub answersSize : ℕ
+answersSize = 16400
+
+abbrev pub textSize : ℕ
+textSize = 33825
 
 -- how many records are stepped, and how many of their answers have room for a line
 abbrev pub stepped : List ℕ → ℕ
@@ -64,7 +74,7 @@ abbrev pub printedAs : Chip → List ℕ → List ℕ → Printed
 printedAs chip bytes before = record { chip = chip; size = 33 * printed bytes before }
 
 -- one turn: what was read, and whether the lines were written, decide all else
-pub record IsTurned (c : Chip) (waited : List ℕ) (count : ℕ) (input read room filled blank lines : List ℕ) (r : Turned) : Type 0 where
+pub record IsAfterRead (c : Chip) (waited : List ℕ) (count : ℕ) (input read room filled blank lines : List ℕ) (r : AfterRead) : Type 0 where
   pub received : IsReceived count (withFront waited input) read (r .received)
   pub shown : IsPrinted c (whole (r .received) read) blank lines (printedAs (r .chip) (whole (r .received) read) blank)
   pub answers : filled ≡ answered c (whole (r .received) read) ++ drop (16 * stepped (whole (r .received) read)) room

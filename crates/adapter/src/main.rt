@@ -3,7 +3,7 @@ ghost use mathlib.Core.Path.{_≡_};
 ghost use mathlib.Core.List.{_++_};
 ghost use Prim.Native.Nat.{_*_, _≤_};
 ghost use lib.ListN.{drop, length, getD};
-ghost use Rattle.adapter.specs.Texts.{IsPrinted, IsReceived, IsTurned, answered, leftOver, nothing, stepped, tailFrom};
+ghost use Rattle.adapter.specs.Texts.{IsPrinted, IsReceived, IsAfterRead, answered, answersSize, inputSize, leftOver, nothing, stepped, tailFrom, textSize};
 use rules::chip::Chip;
 use rules::records::ANSWER_SIZE;
 use rules::records::RECORD_SIZE;
@@ -28,7 +28,7 @@ pub struct Received {
 }
 
 // What came from outside, the read and whether the lines were written, and what follows: the chip, the bytes that wait, whether to go on.
-pub struct Turned {
+pub struct AfterRead {
     pub received: Received,
     pub is_written: bool,
     pub chip: Chip,
@@ -39,7 +39,7 @@ pub struct Turned {
 
 // The answers to the records at the front of answers, and their lines at the front of text.
 fn print(c: Chip, records: &[u8], answers: &mut [u8], text: &mut [u8]) -> Printed
-    requires { ⌜ length (now answers) ≡ 16400 ⌝ }
+    requires { ⌜ length (now answers) ≡ answersSize ⌝ }
     ensures { λ r. ⌜ IsPrinted c (now (records .entry)) (now (text .entry)) (now (text .exit)) r ⌝ }
     ensures { λ _. ⌜ now (answers .exit) ≡ answered c (now (records .entry)) ++ drop (16 * stepped (now (records .entry))) (now (answers .entry)) ⌝ }
 {
@@ -121,19 +121,19 @@ fn send(lines: &[u8]) -> bool {
 }
 
 // One read, so that answers come as soon as their records do. Nothing is read of what an earlier turn left in the arrays.
-fn turn(
+fn one_read(
     c: Chip,
     left: [u8; RECORD_SIZE],
     kept: usize,
     input: &mut [u8],
     answers: &mut [u8],
     text: &mut [u8],
-) -> Turned
+) -> AfterRead
     requires { ⌜ kept ≤ 3 ⌝ }
-    requires { ⌜ length (now input) ≡ 4100 ⌝ }
-    requires { ⌜ length (now answers) ≡ 16400 ⌝ }
-    requires { ⌜ length (now text) ≡ 33825 ⌝ }
-    ensures { λ r. ⌜ IsTurned c left kept (now (input .entry)) (now (input .exit)) (now (answers .entry)) (now (answers .exit)) (now (text .entry)) (now (text .exit)) r ⌝ }
+    requires { ⌜ length (now input) ≡ inputSize ⌝ }
+    requires { ⌜ length (now answers) ≡ answersSize ⌝ }
+    requires { ⌜ length (now text) ≡ textSize ⌝ }
+    ensures { λ r. ⌜ IsAfterRead c left kept (now (input .entry)) (now (input .exit)) (now (answers .entry)) (now (answers .exit)) (now (text .entry)) (now (text .exit)) r ⌝ }
 {
     input[0] = left[0];
     input[1] = left[1];
@@ -147,7 +147,7 @@ fn turn(
     let is_written = send(&text[..p.size]);
     let left = tail(&input[..held], end);
     let chip = p.chip;
-    Turned {
+    AfterRead {
         received: received,
         is_written: is_written,
         chip: chip,
@@ -168,7 +168,7 @@ fn answer_all() {
     let mut answers = [0u8; ANSWERS_SIZE];
     let mut text = [0u8; TEXT_SIZE];
     while turns > 0 && more {
-        let t = turn(chip, left, kept, &mut input, &mut answers, &mut text);
+        let t = one_read(chip, left, kept, &mut input, &mut answers, &mut text);
         chip = t.chip;
         left = t.left;
         kept = t.kept;

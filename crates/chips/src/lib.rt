@@ -33,7 +33,7 @@ pub fn store(c: Chip, m: &mut Image)
     ensures { λ _. ⌜ Stored c (now (m .exit)) ⌝ }
 {
     let registers = c.registers;
-    let path = c.path;
+    let path = c.transfer;
     let stack = c.stack;
     let scsi = path.scsi.bytes;
     let host = path.host.bytes;
@@ -69,7 +69,7 @@ pub fn load(m: &Image) -> Chip
     Chip {
         lines: lines,
         registers: registers,
-        path: path,
+        transfer: path,
         status: status,
         latches: latches,
         stack: stack,

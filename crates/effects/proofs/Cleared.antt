@@ -4,6 +4,7 @@ use mathlib.Core.Path.{_≡_}
 use mathlib.Core.Bool.{Bool, true, false, cond}
 use mathlib.Core.List.{List, []}
 use native.Mathlib.Omega.{arith}
+use Rattle.rules.specs.Changed.{transferWithScsi, transferWithOffset}
 use Rattle.rules.specs.Numbers.{bit}
 use Rattle.rules.specs.State.{State, Transfer}
 use Rattle.rules.specs.Ranges.{TransferFits, TransferBytes}
@@ -14,7 +15,7 @@ use Rattle.effects.proofs.StatesOfA.{Reached, there}
 
 -- the data path, by whether CLRCH was written
 abbrev cleared : Bool → Transfer → Transfer
-cleared clrch t = record { host = t .host; scsi = cond clrch [] (t .scsi); counter = t .counter; offset = cond clrch 0 (t .offset); ack = t .ack; last = t .last }
+cleared clrch t = transferWithScsi (cond clrch [] (t .scsi)) (transferWithOffset (cond clrch 0 (t .offset)) t)
 
 cleared-fits : (clrch : Bool) (t : Transfer) → TransferFits t → TransferFits (cleared clrch t)
 cleared-fits true t f = record { host = f .host; scsi = omega arith; counter = f .counter; offset = omega arith }

@@ -6,6 +6,7 @@ use mathlib.Core.List.{List, [], _∷_, _++_}
 use native.Mathlib.Omega.{arith}
 use lib.ListN.{getD}
 use Rattle.rules.specs.Numbers.{bit}
+use Rattle.rules.specs.Seen.{ioSeen}
 use Rattle.rules.specs.State.{State}
 use Rattle.rules.specs.Stack.{stackWritten, pointed}
 use Rattle.rules.specs.Codes.{accessCode}
@@ -76,9 +77,9 @@ unfolding Leaving
 scsidat = record { fits = omega arith; done = λ s v. write-code s 0x06 v; after = λ s v. refl }
 
 -- the access to the latch as the code tests it
-pub latch-accessed : (m : List ℕ) (v : ℕ) → (not (bit (getD m controlPlace 0) 6) && bit (getD m statusPlace 0) 7) ≡ latchAccess (stateAt m) (Write 0x06 v)
-unfolding latchAccess writes reads stateAt
-latch-accessed m v = rw (or-false (not (bit (getD m controlPlace 0) 6)))
+pub latch-accessed : (m : List ℕ) (v : ℕ) {io ready : Bool} → io ≡ ioSeen (stateAt m) → ready ≡ (stateAt m) .status .spiordy → (not io && ready) ≡ latchAccess (stateAt m) (Write 0x06 v)
+unfolding latchAccess writes reads
+latch-accessed m v e f = rw (e, f, or-false (not (ioSeen (stateAt m))))
 
 -- where the code has the two tests as it found them
 pub fills : {m : List ℕ} → IsImage m → {v : ℕ} → v < 256 → {x y : Bool} → x ≡ latchAccess (stateAt m) (Write 0x06 v) → y ≡ automaticAck (stateAt m) (Write 0x06 v) → Leaves m (Write 0x06 v) (latchFilled x y (stateAt m) v)

@@ -6,6 +6,7 @@ use mathlib.Core.List.{List}
 use lib.Dec.{eqb}
 use lib.ListN.{drop, getD}
 use Rattle.rules.specs.Numbers.{bit}
+use Rattle.rules.specs.Seen.{ioSeen}
 use Rattle.rules.specs.State.{State}
 use Rattle.rules.specs.Map.{table, readAt}
 use Rattle.rules.specs.Events.{writes, reads, linesAfter, asked, portWrite}
@@ -74,6 +75,6 @@ module _ (s : State) where
   plain-value o r found = rw found
 
 -- "a read with IO seen, with SPIORDY"
-pub latch-accessed : (m : List ℕ) → (bit (getD m controlPlace 0) 6 && bit (getD m statusPlace 0) 7) ≡ latchAccess (stateAt m) (Read 0x06)
-unfolding latchAccess writes reads stateAt
-latch-accessed m = refl
+pub latch-accessed : (m : List ℕ) {io ready : Bool} → io ≡ ioSeen (stateAt m) → ready ≡ (stateAt m) .status .spiordy → (io && ready) ≡ latchAccess (stateAt m) (Read 0x06)
+unfolding latchAccess writes reads
+latch-accessed m e f = rw (e, f)

@@ -11,13 +11,13 @@ ghost use Rattle.effects.specs.Writes.{ackCounted};
 use crate::Acted;
 use crate::done_with;
 use datapath::counts::acknowledged;
+use image::bits::spiordy;
 use image::bus::automatic;
 use image::bus::data_seen;
+use image::bus::io_seen;
 use image::bus::matched;
 use image::bus::req_seen;
 use image::layout::Image;
-use image::layout::LINES_CONTROL;
-use image::layout::STATUS;
 use interrupts::status::status_kept_in;
 use rules::map::Register;
 use writes::storing::stored;
@@ -48,7 +48,7 @@ pub fn latch_filled(m: &mut Image, value: u8) -> Acted
     requires { ⌜ IsImage (now m) ⌝ }
     ensures { λ r. ⌜ Acts (stateAt (now (m .entry))) (Write (offsetOf SCSIDAT) value) (now (m .exit)) r ⌝ }
 {
-    let accessed = !((m[LINES_CONTROL] >> 6) % 2 == 1) & ((m[STATUS] >> 7) % 2 == 1);
+    let accessed = !io_seen(m) & spiordy(m);
     let acked = automatic_ack(m, accessed);
     ack_by(m, acked);
     stored(m, Register::SCSIDAT, value);
@@ -61,7 +61,7 @@ pub fn latch_read(m: &mut Image) -> Acted
     requires { ⌜ IsImage (now m) ⌝ }
     ensures { λ r. ⌜ Acts (stateAt (now (m .entry))) (Read 0x06) (now (m .exit)) r ⌝ }
 {
-    let accessed = ((m[LINES_CONTROL] >> 6) % 2 == 1) & ((m[STATUS] >> 7) % 2 == 1);
+    let accessed = io_seen(m) & spiordy(m);
     let acked = automatic_ack(m, accessed);
     let value = data_seen(m) as u16;
     ack_by(m, acked);

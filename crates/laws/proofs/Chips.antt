@@ -11,15 +11,15 @@ module _ (c : Chip) (t : Tidy c) where
   unfolding chipOf
   tidy-registers = ap (λ (x : Chip). x .registers) (t .packed)
 
-  pub tidy-path : c .path ≡ pathOf (view c .transfer)
+  pub tidy-path : c .transfer ≡ pathOf (view c .transfer)
   unfolding chipOf
-  tidy-path = ap (λ (x : Chip). x .path) (t .packed)
+  tidy-path = ap (λ (x : Chip). x .transfer) (t .packed)
 
   -- the counts are the lengths of what they show
-  pub tidy-host : c .path .host .count ≡ length (view c .transfer .host)
+  pub tidy-host : c .transfer .host .count ≡ length (view c .transfer .host)
   unfolding pathOf
   tidy-host = ap (λ (p : DataPath). p .host .count) tidy-path
 
-  pub tidy-scsi : c .path .scsi .count ≡ length (view c .transfer .scsi)
+  pub tidy-scsi : c .transfer .scsi .count ≡ length (view c .transfer .scsi)
   unfolding pathOf
   tidy-scsi = ap (λ (p : DataPath). p .scsi .count) tidy-path

@@ -113,81 +113,46 @@ withIdentity x s =
       identity = x;
     }
 
+-- a data path with one part another
+abbrev pub transferWithHost : List ℕ → Transfer → Transfer
+transferWithHost x t =
+    record { host = x; scsi = t .scsi; counter = t .counter; offset = t .offset; ack = t .ack; last = t .last }
+
+abbrev pub transferWithScsi : List ℕ → Transfer → Transfer
+transferWithScsi x t =
+    record { host = t .host; scsi = x; counter = t .counter; offset = t .offset; ack = t .ack; last = t .last }
+
+abbrev pub transferWithCounter : ℕ → Transfer → Transfer
+transferWithCounter x t =
+    record { host = t .host; scsi = t .scsi; counter = x; offset = t .offset; ack = t .ack; last = t .last }
+
+abbrev pub transferWithOffset : ℕ → Transfer → Transfer
+transferWithOffset x t =
+    record { host = t .host; scsi = t .scsi; counter = t .counter; offset = x; ack = t .ack; last = t .last }
+
+abbrev pub transferWithAck : Bool → Transfer → Transfer
+transferWithAck x t =
+    record { host = t .host; scsi = t .scsi; counter = t .counter; offset = t .offset; ack = x; last = t .last }
+
+abbrev pub transferWithLast : ℕ → Transfer → Transfer
+transferWithLast x t =
+    record { host = t .host; scsi = t .scsi; counter = t .counter; offset = t .offset; ack = t .ack; last = x }
+
 -- the state with one part of its data path another
 abbrev pub withHost : List ℕ → State → State
-withHost l s =
-    withTransfer
-    (record {
-      host = l;
-      scsi = s .transfer .scsi;
-      counter = s .transfer .counter;
-      offset = s .transfer .offset;
-      ack = s .transfer .ack;
-      last = s .transfer .last;
-    })
-    s
+withHost x s = withTransfer (transferWithHost x (s .transfer)) s
 
 abbrev pub withScsi : List ℕ → State → State
-withScsi l s =
-    withTransfer
-    (record {
-      host = s .transfer .host;
-      scsi = l;
-      counter = s .transfer .counter;
-      offset = s .transfer .offset;
-      ack = s .transfer .ack;
-      last = s .transfer .last;
-    })
-    s
+withScsi x s = withTransfer (transferWithScsi x (s .transfer)) s
 
 abbrev pub withCounter : ℕ → State → State
-withCounter n s =
-    withTransfer
-    (record {
-      host = s .transfer .host;
-      scsi = s .transfer .scsi;
-      counter = n;
-      offset = s .transfer .offset;
-      ack = s .transfer .ack;
-      last = s .transfer .last;
-    })
-    s
+withCounter x s = withTransfer (transferWithCounter x (s .transfer)) s
 
 abbrev pub withOffset : ℕ → State → State
-withOffset n s =
-    withTransfer
-    (record {
-      host = s .transfer .host;
-      scsi = s .transfer .scsi;
-      counter = s .transfer .counter;
-      offset = n;
-      ack = s .transfer .ack;
-      last = s .transfer .last;
-    })
-    s
+withOffset x s = withTransfer (transferWithOffset x (s .transfer)) s
 
 abbrev pub withAck : Bool → State → State
-withAck b s =
-    withTransfer
-    (record {
-      host = s .transfer .host;
-      scsi = s .transfer .scsi;
-      counter = s .transfer .counter;
-      offset = s .transfer .offset;
-      ack = b;
-      last = s .transfer .last;
-    })
-    s
+withAck x s = withTransfer (transferWithAck x (s .transfer)) s
 
 abbrev pub withLast : ℕ → State → State
-withLast n s =
-    withTransfer
-    (record {
-      host = s .transfer .host;
-      scsi = s .transfer .scsi;
-      counter = s .transfer .counter;
-      offset = s .transfer .offset;
-      ack = s .transfer .ack;
-      last = n;
-    })
-    s
+withLast x s = withTransfer (transferWithLast x (s .transfer)) s

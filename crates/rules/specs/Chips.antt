@@ -73,7 +73,7 @@ view c =
     record {
       lines = c .lines;
       registers = registersView (c .registers);
-      transfer = pathView (c .path);
+      transfer = pathView (c .transfer);
       status = c .status;
       latches = c .latches;
       stack = stackView (c .stack);
@@ -87,7 +87,7 @@ chipOf s =
     record {
       lines = s .lines;
       registers = s .registers;
-      path = pathOf (s .transfer);
+      transfer = pathOf (s .transfer);
       status = s .status;
       latches = s .latches;
       stack = s .stack;

@@ -5,6 +5,7 @@ use mathlib.Core.List.{List, [], _∷_, _++_}
 use lib.Dec.{ltb}
 use lib.ListN.{length, take, drop, getD}
 use Rattle.rules.specs.State.{State, Transfer}
+use Rattle.rules.specs.Changed.{transferWithHost, transferWithScsi, transferWithCounter, transferWithOffset, transferWithAck, transferWithLast}
 use Rattle.rules.specs.Seen.{reqSeen, matched, path, synchronous, dataSeen}
 use Rattle.rules.specs.Counter.{counted}
 use Rattle.rules.specs.StepB.{afterB}
@@ -40,20 +41,9 @@ canMove c t =
 unfoldable pub move : Conditions → Settling → Settling
 move c s =
     let t = s .transfer in
-    record {
-      transfer =
-          record {
-            host = cond (c .outbound) (drop 1 (t .host)) (t .host ++ take 1 (t .scsi));
-            scsi = cond (c .outbound) (t .scsi ++ take 1 (t .host)) (drop 1 (t .scsi));
-            counter = t .counter;
-            offset = t .offset;
-            ack = t .ack;
-            last = t .last;
-          };
-      moves = s .moves + 1;
-      acks = s .acks;
-      sent = s .sent;
-    }
+    let host = cond (c .outbound) (drop 1 (t .host)) (t .host ++ take 1 (t .scsi)) in
+    let scsi = cond (c .outbound) (t .scsi ++ take 1 (t .host)) (drop 1 (t .scsi)) in
+    record { transfer = transferWithHost host (transferWithScsi scsi t); moves = s .moves + 1; acks = s .acks; sent = s .sent }
 
 -- "Asynchronous: REQ seen, automatic ACK off; inbound needs fewer than 8 bytes held ...; outbound needs a byte held"
 unfoldable pub canAsynchronous : Conditions → Transfer → Bool
@@ -79,14 +69,11 @@ handshake c s =
     let t = s .transfer in
     record {
       transfer =
-          record {
-            host = t .host;
-            scsi = cond (c .outbound) (drop 1 (t .scsi)) (t .scsi ++ storedBy c);
-            counter = counted (t .counter);
-            offset = cond (c .synchronous) (t .offset - 1) (t .offset);
-            ack = cond (c .synchronous) (t .ack) true;
-            last = cond (c .outbound) (getD (t .scsi) 0 0) (t .last);
-          };
+          transferWithScsi (cond (c .outbound) (drop 1 (t .scsi)) (t .scsi ++ storedBy c))
+          (transferWithCounter (counted (t .counter))
+          (transferWithOffset (cond (c .synchronous) (t .offset - 1) (t .offset))
+          (transferWithAck (cond (c .synchronous) (t .ack) true)
+          (transferWithLast (cond (c .outbound) (getD (t .scsi) 0 0) (t .last)) t))));
       moves = s .moves;
       acks = s .acks + 1;
       sent = cond (c .outbound) (s .sent ++ take 1 (t .scsi)) (s .sent);

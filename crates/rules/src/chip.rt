@@ -54,7 +54,7 @@ pub struct Stack {
 pub struct Chip {
     pub lines: Lines,
     pub registers: Registers,
-    pub path: DataPath,
+    pub transfer: DataPath,
     pub status: Status,
     pub latches: Latches,
     pub stack: Stack,

@@ -17,7 +17,7 @@ use Rattle.rules.proofs.Rest.{handshake-full}
 use Rattle.laws.proofs.Lists.{elements, elements-all, padded-length, padded-shift}
 use Rattle.settling.specs.Blocks.{startOf, passed, acknowledged}
 use Rattle.settling.proofs.ShakeParts.{passed-none}
-use Rattle.rules.specs.Changed.{withAck, withScsi, withTransfer}
+use Rattle.rules.specs.Changed.{withAck, withScsi, withTransfer, withLast}
 use Rattle.image.specs.Image.{headOf, imageOf, stateAt, IsImage}
 use Rattle.datapath.specs.Laid.{laid}
 use Rattle.settling.specs.Steps.{bytePassed}
@@ -29,9 +29,9 @@ use Rattle.datapath.specs.Fits.{counterCounted}
 use Rattle.datapath.proofs.Heads.{offset-stored}
 
 -- another SCSI FIFO and byte last sent in their places
-last-set : (s : State) (q : List ℕ) (b : ℕ) → set (set (laid (headOf s) q (s .stack .bytes) (s .transfer .host)) lastPlace b) scsiCountPlace (length q) ≡ imageOf (withTransfer (record { host = s .transfer .host; scsi = q; counter = s .transfer .counter; offset = s .transfer .offset; ack = s .transfer .ack; last = b }) s)
+last-set : (s : State) (q : List ℕ) (b : ℕ) → set (set (laid (headOf s) q (s .stack .bytes) (s .transfer .host)) lastPlace b) scsiCountPlace (length q) ≡ imageOf (withScsi q (withLast b s))
 unfolding laid imageOf
-last-set s q b = sym (flat (headOf (withTransfer (record { host = s .transfer .host; scsi = q; counter = s .transfer .counter; offset = s .transfer .offset; ack = s .transfer .ack; last = b }) s)) (padded 8 q) (s .stack .bytes) (padded 128 (s .transfer .host)))
+last-set s q b = sym (flat (headOf (withScsi q (withLast b s))) (padded 8 q) (s .stack .bytes) (padded 128 (s .transfer .host)))
 
 -- the byte behind a place put in it; so for the eight places of the SCSI FIFO, and 0 in the last
 abbrev lower : ℕ → List ℕ → List ℕ

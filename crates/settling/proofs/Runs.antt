@@ -10,6 +10,7 @@ use lib.Dec.{ltb}
 use lib.ListN.{length, take, drop, length-append, length-take, length-drop}
 use lib.Seq.{take-add, drop-drop}
 use borrow.Author.Tests.{lt-ltb, le-ltb}
+use Rattle.rules.specs.Changed.{transferWithHost, transferWithScsi}
 use Rattle.rules.specs.State.{Transfer}
 use Rattle.rules.specs.StepC.{Settling, canMove, move}
 use Rattle.rules.specs.declared.chip.Conditions.{Conditions}
@@ -19,11 +20,11 @@ carried-none : (o : Bool) (t : Transfer) → carried o 0 t ≡ t
 unfolding carried
 carried-none true t = same (t .host) (append-nil (t .scsi))
   where
-    same : (h : List ℕ) {q q′ : List ℕ} → q ≡ q′ → _≡_ {A = Transfer} (record { host = h; scsi = q; counter = t .counter; offset = t .offset; ack = t .ack; last = t .last }) (record { host = h; scsi = q′; counter = t .counter; offset = t .offset; ack = t .ack; last = t .last })
+    same : (h : List ℕ) {q q′ : List ℕ} → q ≡ q′ → _≡_ {A = Transfer} (transferWithHost h (transferWithScsi q t)) (transferWithHost h (transferWithScsi q′ t))
     same h e = cc
 carried-none false t = same (t .scsi) (append-nil (t .host))
   where
-    same : (q : List ℕ) {h h′ : List ℕ} → h ≡ h′ → _≡_ {A = Transfer} (record { host = h; scsi = q; counter = t .counter; offset = t .offset; ack = t .ack; last = t .last }) (record { host = h′; scsi = q; counter = t .counter; offset = t .offset; ack = t .ack; last = t .last })
+    same : (q : List ℕ) {h h′ : List ℕ} → h ≡ h′ → _≡_ {A = Transfer} (transferWithHost h (transferWithScsi q t)) (transferWithHost h′ (transferWithScsi q t))
     same q e = cc
 
 -- j more behind k

@@ -4,13 +4,14 @@ use mathlib.Core.Bool.{false, cond}
 use mathlib.Core.Path.{_≡_, refl}
 use mathlib.Core.List.{List, [], _++_, append-nil}
 use lib.ListN.{take}
+use Rattle.rules.specs.Changed.{transferWithScsi}
 use Rattle.rules.specs.State.{Transfer}
 use Rattle.rules.specs.StepC.{Settling, storedBy, handshake}
 use Rattle.rules.specs.declared.chip.Conditions.{Conditions}
 use Rattle.settling.specs.Blocks.{passed, acknowledged}
 
 -- inbound, where nothing is stored, nothing changes
-held-same : {q q′ : List ℕ} (t : Transfer) → q ≡ q′ → _≡_ {A = Transfer} (record { host = t .host; scsi = q; counter = t .counter; offset = t .offset; ack = t .ack; last = t .last }) (record { host = t .host; scsi = q′; counter = t .counter; offset = t .offset; ack = t .ack; last = t .last })
+held-same : {q q′ : List ℕ} (t : Transfer) → q ≡ q′ → _≡_ {A = Transfer} (transferWithScsi q t) (transferWithScsi q′ t)
 held-same t e = cc
 
 pub passed-none : (t : Transfer) → passed false [] t ≡ t

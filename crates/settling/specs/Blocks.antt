@@ -4,6 +4,7 @@ use mathlib.Core.Bool.{Bool, true, cond}
 use mathlib.Core.List.{List, [], _++_}
 use lib.ListN.{length, take, drop, getD}
 use Rattle.rules.specs.State.{Transfer}
+use Rattle.rules.specs.Changed.{transferWithHost, transferWithScsi, transferWithCounter, transferWithOffset, transferWithAck, transferWithLast}
 use Rattle.rules.specs.Counter.{counted}
 use Rattle.rules.specs.StepC.{Settling}
 use Rattle.rules.specs.declared.chip.Conditions.{Conditions}
@@ -22,14 +23,8 @@ movable c t =
 -- k bytes carried between the FIFOs
 unfoldable pub carried : Bool → ℕ → Transfer → Transfer
 carried outbound k t =
-    record {
-      host = cond outbound (drop k (t .host)) (t .host ++ take k (t .scsi));
-      scsi = cond outbound (t .scsi ++ take k (t .host)) (drop k (t .scsi));
-      counter = t .counter;
-      offset = t .offset;
-      ack = t .ack;
-      last = t .last;
-    }
+    transferWithHost (cond outbound (drop k (t .host)) (t .host ++ take k (t .scsi)))
+    (transferWithScsi (cond outbound (t .scsi ++ take k (t .host)) (drop k (t .scsi))) t)
 
 -- k moves
 unfoldable pub movedBy : Conditions → ℕ → Settling → Settling
@@ -39,23 +34,11 @@ movedBy c k s =
 -- the byte of a handshake: the oldest sent, or what is stored behind
 unfoldable pub passed : Bool → List ℕ → Transfer → Transfer
 passed outbound stored t =
-    record {
-      host = t .host;
-      scsi = cond outbound (drop 1 (t .scsi)) (t .scsi ++ stored);
-      counter = t .counter;
-      offset = t .offset;
-      ack = t .ack;
-      last = cond outbound (getD (t .scsi) 0 0) (t .last);
-    }
+    transferWithScsi (cond outbound (drop 1 (t .scsi)) (t .scsi ++ stored))
+    (transferWithLast (cond outbound (getD (t .scsi) 0 0) (t .last)) t)
 
 -- its ACK: on, or a pulse that lowers the offset
 unfoldable pub acknowledged : Bool → Transfer → Transfer
 acknowledged synchronous t =
-    record {
-      host = t .host;
-      scsi = t .scsi;
-      counter = counted (t .counter);
-      offset = cond synchronous (t .offset - 1) (t .offset);
-      ack = cond synchronous (t .ack) true;
-      last = t .last;
-    }
+    transferWithCounter (counted (t .counter))
+    (transferWithOffset (cond synchronous (t .offset - 1) (t .offset)) (transferWithAck (cond synchronous (t .ack) true) t))

@@ -16,7 +16,7 @@ use Rattle.image.specs.Image.{imageOf, stateAt, IsImage}
 use Rattle.effects.proofs.ImageOnward.{image-is, state-is}
 use Rattle.event.specs.Outcomes.{Gives}
 use Rattle.event.specs.declared.stepping.Reply.{Reply}
-use Rattle.step.specs.Runs.{recordAt, recordsOf, joined, IsTurn}
+use Rattle.step.specs.Runs.{recordAt, recordsOf, joined, IsRecordAnswered}
 
 records-next : (i : ℕ) (l : List ℕ) → recordsOf (suc i) l ≡ recordsOf i l ++ (recordAt i l ∷ [])
 records-next zero l = refl
@@ -67,7 +67,7 @@ record-part i n l e =
     take-clamped (length l - 4 * i) 4 (n - 4 * i) (drop (4 * i) l) d (omega arith)
 
 -- one record, stepped and answered
-pub turned : (m : List ℕ) (i n : ℕ) (l : List ℕ) → n ≡ min (4 * i + 4) (length l) → {k : List ℕ} {r : Reply} → Gives (step (stateAt m) (take (n - 4 * i) (drop (4 * i) l))) k r → {before buffer : List ℕ} → buffer ≡ (take (16 * i) before ++ r .answer) ++ drop (16 * i + 16) before → IsTurn m l before i k buffer
+pub turned : (m : List ℕ) (i n : ℕ) (l : List ℕ) → n ≡ min (4 * i + 4) (length l) → {k : List ℕ} {r : Reply} → Gives (step (stateAt m) (take (n - 4 * i) (drop (4 * i) l))) k r → {before buffer : List ℕ} → buffer ≡ (take (16 * i) before ++ r .answer) ++ drop (16 * i + 16) before → IsRecordAnswered m l before i k buffer
 unfolding answer
 turned m i n l e g {before} u =
     let q = record-part i n l e in
@@ -104,7 +104,7 @@ module _ (s : State) (f : InRange s) (j : InBytes s) (l o : List ℕ) (i : ℕ) 
   one-more : recordsOf (i + 1) l ≡ passed ++ (recordAt i l ∷ [])
   one-more = ap (λ (k : ℕ). recordsOf k l) (add-one i) ∙ records-next i l
 
-  module _ {n buffer : List ℕ} (t : IsTurn m l out i n buffer) where
+  module _ {n buffer : List ℕ} (t : IsRecordAnswered m l out i n buffer) where
     pub image-next : n ≡ imageOf (after s (recordsOf (i + 1) l))
     image-next =
         t .image

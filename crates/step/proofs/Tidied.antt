@@ -23,7 +23,7 @@ pub stack-fits : (k : Stack) → length (k .bytes) ≡ 32 → StackFits (stackVi
 unfolding stackView
 stack-fits k h = record { pointer = omega arith; size = h }
 
-pub view-fits : (c : Chip) → TransferFits (pathView (c .path)) → StackFits (stackView (c .stack)) → InRange (view c)
+pub view-fits : (c : Chip) → TransferFits (pathView (c .transfer)) → StackFits (stackView (c .stack)) → InRange (view c)
 unfolding view registersView
 view-fits c p k =
     record {

@@ -32,7 +32,7 @@ abbrev pub recordAt : ℕ → List ℕ → List ℕ
 recordAt i bytes = take 4 (drop (4 * i) bytes)
 
 -- one of them on an image: the image that record i leaves, and its answer in its place
-pub record IsTurn (m bytes before : List ℕ) (i : ℕ) (n buffer : List ℕ) : Type 0 where
+pub record IsRecordAnswered (m bytes before : List ℕ) (i : ℕ) (n buffer : List ℕ) : Type 0 where
   pub image : n ≡ imageOf ((step (stateAt m) (recordAt i bytes)) .state)
   pub answers : buffer ≡ (take (16 * i) before ++ answer (stateAt m) (recordAt i bytes)) ++ drop (16 * i + 16) before
 

@@ -122,7 +122,7 @@ pub fn power_reset() -> Chip
     Chip {
         lines: lines,
         registers: registers,
-        path: path,
+        transfer: path,
         status: status,
         latches: latches,
         stack: stack,
@@ -184,14 +184,14 @@ pub fn tidied(c: Chip) -> Chip
 {
     let registers = c.registers;
     let stored = registers_tidied(registers);
-    let path = c.path;
+    let path = c.transfer;
     let held = path_tidied(path);
     let stack = c.stack;
     let kept = stack_tidied(stack);
     let quiet = at_most_8(c.quiet);
     let mut n = c;
     n.registers = stored;
-    n.path = held;
+    n.transfer = held;
     n.stack = kept;
     n.quiet = quiet;
     n.identity = c.identity % 32;

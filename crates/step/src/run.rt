@@ -3,7 +3,7 @@ ghost use mathlib.Core.Path.{_≡_};
 ghost use Prim.Native.Nat.{_+_, _*_, _<_, _≤_, min};
 ghost use lib.ListN.{length};
 ghost use Rattle.image.specs.Image.{IsImage};
-ghost use Rattle.step.specs.Runs.{IsRun, IsTurn};
+ghost use Rattle.step.specs.Runs.{IsRun, IsRecordAnswered};
 use crate::Ran;
 use crate::answers::store_at;
 use crate::reset::tidied;
@@ -16,11 +16,11 @@ use rules::records::ANSWER_SIZE;
 use rules::records::RECORD_SIZE;
 
 // Record i, and its answer in its place; the last record ends where the slice does.
-fn turn(m: &mut Image, records: &[u8], answers: &mut [u8], i: usize)
+fn record_answered(m: &mut Image, records: &[u8], answers: &mut [u8], i: usize)
     requires { ⌜ IsImage (now m) ⌝ }
     requires { ⌜ 4 * i < length (now records) ⌝ }
     requires { ⌜ 16 * i + 16 ≤ length (now answers) ⌝ }
-    ensures { λ _. ⌜ IsTurn (now (m .entry)) (now (records .entry)) (now (answers .entry)) i (now (m .exit)) (now (answers .exit)) ⌝ }
+    ensures { λ _. ⌜ IsRecordAnswered (now (m .entry)) (now (records .entry)) (now (answers .entry)) i (now (m .exit)) (now (answers .exit)) ⌝ }
 {
     let from = RECORD_SIZE * i;
     let end = smaller(from + RECORD_SIZE, records.len());
@@ -41,7 +41,7 @@ pub fn run(c: Chip, records: &[u8], answers: &mut [u8]) -> Ran
     let mut m = [0u8; SIZE];
     chips::store(chip, &mut m);
     for i in 0..n {
-        turn(&mut m, records, answers, i);
+        record_answered(&mut m, records, answers, i);
     }
     let last = chips::load(&m);
     Ran {

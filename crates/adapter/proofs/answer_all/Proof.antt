@@ -21,7 +21,7 @@ loop-holds c = (omega arith, length-replicate {A = ℕ} _ 0, length-replicate {A
 loop-again : tie.Need-loop-again Inv-loop μ-loop
 loop-again c =
     let turned = c .before .before .before .before .before in
-    let turn = turned .turn in
+    let turn = turned .one-read in
     let l = turned .before .before .before .before .before .before .loop in (
       rw (turn .ensures .kept) (left-over-small (turn .result .received .held) (turn .result .received .«is_end»)),
       turn .kept .1 .1 .1 .0 ∙ l .inv .1,

@@ -14,7 +14,7 @@ returns c =
     record {
       lines = c .before .before .before .before .before .before .before .before .before .lines-at .ensures i;
       registers = c .before .before .before .before .before .before .before .before .registers-at .ensures i;
-      path = c .before .before .before .before .before .before .before .path-at .ensures i;
+      transfer = c .before .before .before .before .before .before .before .path-at .ensures i;
       status = c .before .before .before .before .before .status-of .ensures i;
       latches = c .before .before .before .latches-of .ensures i;
       stack = c .before .before .stack-at .ensures i;

@@ -6,7 +6,7 @@ use native.Mathlib.Omega.{arith}
 use lib.ListN.{length, length-set}
 use lib.Seq.{paste, paste-zero}
 use Rattle.hex.specs.Hex.{lineOf}
-use Rattle.hex.proofs.Turns.{put-byte, put-end}
+use Rattle.hex.proofs.LineByLine.{put-byte, put-end}
 use Rattle.hex.proofs.line.Statement.{statement}
 use Rattle.hex.proofs.line.Tie as tie
 

@@ -7,7 +7,7 @@ use native.Mathlib.Omega.{arith}
 use lib.ListN.{length, drop}
 use lib.Seq.{paste}
 use Rattle.hex.specs.Hex.{answersIn, lineOf, linesOf}
-use Rattle.hex.proofs.Turns.{put-line}
+use Rattle.hex.proofs.LineByLine.{put-line}
 use Rattle.hex.proofs.print.Statement.{statement}
 use Rattle.hex.proofs.print.Tie as tie
 

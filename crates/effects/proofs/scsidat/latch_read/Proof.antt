@@ -17,9 +17,11 @@ unfolding readAt table
 status-kept-in-requires c κs =
     let x = c .before in
     let k = x .before .before .before .before in
-    let o = k .before .before .before .before in
+    let ready = k .before .before in
+    let seen = ready .before .before in
+    let o = seen .before .before in
     let m = o .args .m .now in
-    let acked = acked-is m (Read 0x06) (latch-accessed m) (k .automatic-ack .ensures) in
+    let acked = acked-is m (Read 0x06) (latch-accessed m (seen .io-seen .ensures) (ready .spiordy .ensures)) (k .automatic-ack .ensures) in
     unheld-image (o .pre) 0x06 (omega arith) (read-done (o .pre) 0x06 SCSIDAT refl refl)
     (x .ack-by .ensures ∙ ap imageOf (latch-left (stateAt m) acked))
 
@@ -29,14 +31,16 @@ returns c =
     let x = c .before .before .before in
     let v = x .before .before in
     let k = v .before .before in
-    let o = k .before .before .before .before in
+    let ready = k .before .before in
+    let seen = ready .before .before in
+    let o = seen .before .before in
     let m = o .args .m .now in
-    let acked = acked-is m (Read 0x06) (latch-accessed m) (k .automatic-ack .ensures) in
+    let acked = acked-is m (Read 0x06) (latch-accessed m (seen .io-seen .ensures) (ready .spiordy .ensures)) (k .automatic-ack .ensures) in
     read-acts (o .pre) 0x06 (omega arith) (read-done (o .pre) 0x06 SCSIDAT refl refl)
     (x .ack-by .ensures ∙ ap imageOf (latch-left (stateAt m) acked))
-    (latch-accessed m) acked (c .before .status-kept-in .ensures) (v .data-seen .ensures ∙ at-bus m (o .pre) ∙ latch-value (stateAt m)) (c .done-with .ensures)
+    (latch-accessed m (seen .io-seen .ensures) (ready .spiordy .ensures)) acked (c .before .status-kept-in .ensures) (v .data-seen .ensures ∙ at-bus m (o .pre) ∙ latch-value (stateAt m)) (c .done-with .ensures)
 
 pub latch-read-spec : {M : Type 1} → statement M
 latch-read-spec =
     tie.close
-    (tie.spec (λ c. search needs) (λ c. search needs) (λ c κs. search needs) (λ c κs. search needs) (λ c. search needs) (λ c κs. search needs) status-kept-in-requires (λ c κs. search needs) returns)
+    (tie.spec (λ c κs. search needs) (λ c κs. search needs) (λ c κs. search needs) (λ c κs. search needs) (λ c. search needs) (λ c κs. search needs) status-kept-in-requires (λ c κs. search needs) returns)

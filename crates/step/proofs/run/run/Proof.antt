@@ -53,8 +53,8 @@ loop-holds c =
       refl,
     )
 
-turn-requires : tie.Need-turn-requires Inv-loop μ-loop
-turn-requires c κs =
+record-answered-requires : tie.Need-record-answered-requires Inv-loop μ-loop
+record-answered-requires c κs =
     let l = c .before .before .before .loop in
     let a = c .before .before .before .before .before .before .before .before .before .before .args in (
       image-reached _ (l .inv .7 .range) (l .inv .7 .bytes) (a .records .now) (a .answers .now) (l .i) (l .inv .8) (l .inv .9),
@@ -63,11 +63,11 @@ turn-requires c κs =
 
 loop-again : tie.Need-loop-again Inv-loop μ-loop
 loop-again c =
-    let turn = c .before .before .turn in
+    let record-answered = c .before .before .record-answered in
     let t = c .before .before .before .before .before .loop-test .taken in
     let l = c .before .before .before .before .before .before .loop in
     let a = c .before .before .before .before .before .before .before .before .before .before .before .before .before .args in
-    let same = turn .kept .1 .1 .0 in (
+    let same = record-answered .kept .1 .1 .0 in (
       omega (arith, l .inv .0, t),
       l .inv .1,
       l .inv .2,
@@ -76,8 +76,8 @@ loop-again c =
       l .inv .5,
       l .inv .6,
       l .inv .7,
-      image-next _ (l .inv .7 .range) (l .inv .7 .bytes) (a .records .now) (a .answers .now) (l .i) (l .inv .8) (l .inv .9) (turn .ensures),
-      answers-more _ (l .inv .7 .range) (l .inv .7 .bytes) (a .records .now) (a .answers .now) (l .i) (l .inv .8) (l .inv .9) (turn .ensures),
+      image-next _ (l .inv .7 .range) (l .inv .7 .bytes) (a .records .now) (a .answers .now) (l .i) (l .inv .8) (l .inv .9) (record-answered .ensures),
+      answers-more _ (l .inv .7 .range) (l .inv .7 .bytes) (a .records .now) (a .answers .now) (l .i) (l .inv .8) (l .inv .9) (record-answered .ensures),
     )
 
 load-requires : tie.Need-load-requires Inv-loop μ-loop
@@ -121,7 +121,7 @@ run-spec =
     (λ c κs. search needs)
     store-requires
     loop-holds
-    turn-requires
+    record-answered-requires
     (λ c. omega arith)
     (λ c. omega arith)
     loop-again

@@ -3,10 +3,10 @@ use native.Mathlib.Omega.{arith}
 use borrow.Author.Needs.{needs}
 use lib.ListN.{length-set}
 use lib.Seq.{length-take-le}
-use Rattle.adapter.proofs.Turning.{turned}
+use Rattle.adapter.proofs.OneRead.{turned}
 use Rattle.adapter.proofs.Waiting.{left-over-within}
-use Rattle.adapter.proofs.turn.Statement.{statement}
-use Rattle.adapter.proofs.turn.Tie as tie
+use Rattle.adapter.proofs.one_read.Statement.{statement}
+use Rattle.adapter.proofs.one_read.Tie as tie
 
 -- the bytes kept are within the input
 receive-requires : tie.Need-receive-requires
@@ -55,8 +55,8 @@ returns c =
     let start = receive .before .before .before .before .before in
     turned (start .args .c) (start .args .t2) (start .args .input .now) (receive .receive .ensures) (left-over .left-over .ensures) (printed .print .ensures .0) (printed .print .ensures .1) (tail .tail .ensures) (sent .send .result)
 
-pub turn-spec : {M : Type 1} → statement M
-turn-spec =
+pub one-read-spec : {M : Type 1} → statement M
+one-read-spec =
     tie.close
     (tie.spec
     (λ c. search needs)

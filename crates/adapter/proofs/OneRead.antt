@@ -8,7 +8,7 @@ use Rattle.rules.specs.declared.chip.Chip.{Chip}
 use Rattle.hex.specs.Hex.{linesOf}
 use Rattle.adapter.specs.declared.Printed.{Printed}
 use Rattle.adapter.specs.declared.Received.{Received}
-use Rattle.adapter.specs.Texts.{stepped, printed, answered, IsPrinted, leftOver, tailFrom, IsReceived, withFront, wholeEnd, whole, IsTurned}
+use Rattle.adapter.specs.Texts.{stepped, printed, answered, IsPrinted, leftOver, tailFrom, IsReceived, withFront, wholeEnd, whole, IsAfterRead}
 
 -- the size is known by the records and the room
 sized : {c : Chip} {bytes before now : List ℕ} {p : Printed} → IsPrinted c bytes before now p → IsPrinted c bytes before now (record { chip = p .chip; size = 33 * printed bytes before })
@@ -24,7 +24,7 @@ abbrev without : Received → List ℕ → ℕ → List ℕ
 without r read n = take (r .held - n) read
 
 module _ (c : Chip) (waited input : List ℕ) {count : ℕ} {read : List ℕ} {r : Received} (got : IsReceived count (withFront waited input) read r) {rest : ℕ} (e : rest ≡ leftOver (r .held) (r .«is_end»)) where
-  pub turned : {room filled blank lines : List ℕ} {p : Printed} → IsPrinted c (without r read rest) blank lines p → filled ≡ answered c (without r read rest) ++ drop (16 * stepped (without r read rest)) room → {tail : List ℕ} → tail ≡ tailFrom (take (r .held) read) (r .held - rest) → (written : Bool) → IsTurned c waited count input read room filled blank lines (record { received = r; «is_written» = written; chip = p .chip; left = tail; kept = rest; more = written && not (r .«is_end») })
+  pub turned : {room filled blank lines : List ℕ} {p : Printed} → IsPrinted c (without r read rest) blank lines p → filled ≡ answered c (without r read rest) ++ drop (16 * stepped (without r read rest)) room → {tail : List ℕ} → tail ≡ tailFrom (take (r .held) read) (r .held - rest) → (written : Bool) → IsAfterRead c waited count input read room filled blank lines (record { received = r; «is_written» = written; chip = p .chip; left = tail; kept = rest; more = written && not (r .«is_end») })
   turned {room = room} {blank = blank} {lines = lines} {p = p} shown answers left written =
       record {
         received = got;
