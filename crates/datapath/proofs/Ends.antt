@@ -12,7 +12,7 @@ use Rattle.image.specs.Image.{headOf, imageOf}
 use Rattle.image.specs.Layout.{hostBytesPlace, hostCountPlace, scsiBytesPlace, scsiCountPlace}
 use Rattle.datapath.specs.Laid.{laid, lowered}
 use Rattle.datapath.specs.Fits.{FitsPlaces}
-use Rattle.datapath.proofs.Fronts.{sized-at, counted, image-length}
+use Rattle.datapath.proofs.Fronts.{sized-at, host-counts, image-length}
 use Rattle.datapath.proofs.Places.{Sized, image-laid, scsi-joined, host-joined, scsi-lowered, host-lowered, scsi-set, host-set}
 
 -- a store is a byte put in a place
@@ -74,5 +74,5 @@ module _ {m : List ℕ} (s : State) (e : m ≡ imageOf s) (p : FitsPlaces s) whe
   pub host-one-more : (b : ℕ) → getD m hostCountPlace 0 < 128 → set (set m (hostBytesPlace + getD m hostCountPlace 0) b) hostCountPlace (getD m hostCountPlace 0 + 1) ≡ imageOf (withHost (s .transfer .host ++ (b ∷ [])) s)
   host-one-more b h =
       let n : ℕ = getD m hostCountPlace 0 in
-      let u : n ≡ length (s .transfer .host) = counted p e in
+      let u : n ≡ length (s .transfer .host) = host-counts p e in
       host-behind n 1 u (b ∷ []) (omega arith) (omega arith) (set-paste m (hostBytesPlace + n) b (omega (arith, image-length p e)))

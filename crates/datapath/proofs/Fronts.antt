@@ -20,12 +20,12 @@ host-count s = refl
 
 -- an array of which it is known which state it is the image of
 module _ {m : List ℕ} {s : State} (p : FitsPlaces s) (e : m ≡ imageOf s) where
-  pub counted : getD m hostCountPlace 0 ≡ length (s .transfer .host)
-  counted = ap (λ (x : List ℕ). getD x hostCountPlace 0) e ∙ host-count s
+  pub host-counts : getD m hostCountPlace 0 ≡ length (s .transfer .host)
+  host-counts = ap (λ (x : List ℕ). getD x hostCountPlace 0) e ∙ host-count s
 
   pub none-left : (n : ℕ) → n ≡ getD m hostCountPlace 0 → drop n (s .transfer .host) ≡ []
   none-left n g =
-      let i : length (s .transfer .host) ≤ n = omega (arith, counted) in
+      let i : length (s .transfer .host) ≤ n = omega (arith, host-counts) in
       drop-of-length-le (s .transfer .host) i
 
   pub image-length : length m ≡ imageSize

@@ -28,7 +28,7 @@ module _ (s : State) (held : ℕ) (rst req : Bool) (ticks : ℕ) where
   beyondIn call = call && pastLimit held s
 
   unfoldable pub lateIn : Bool → Bool
-  lateIn counted = counted && lateBehind held s
+  lateIn within = within && lateBehind held s
 
   -- the edges by what is found
   abbrev pub edgesBy : Bool → Bool → Bool → Bool → Bool → Bool → ℕ → Edges
@@ -39,7 +39,7 @@ module _ (s : State) (held : ℕ) (rst req : Bool) (ticks : ℕ) where
         reqrises = rises;
         paritybad = bad;
         beyond = beyond;
-        counted = call && not beyond;
+        within = call && not beyond;
         stored = call && not beyond && ioSeen s;
         late = late;
         free = leb 8 quiet && not (leb 8 (s .quiet));

@@ -13,7 +13,7 @@ use Rattle.rules.specs.Changed.{withStatus, withQuiet}
 use Rattle.image.specs.Image.{imageOf, stateAt}
 use Rattle.image.specs.Layout.{offsetPlace, scsiCountPlace}
 use Rattle.edges.specs.From.{rstRisesFrom, reqRisesFrom, synchronousReqFrom, quietFrom, edgesFrom, appliedFrom}
-use Rattle.edges.specs.Components.{registersB, transferB, statusB, storedB, countedB}
+use Rattle.edges.specs.Components.{registersB, transferB, statusB, storedB, offsetB}
 use Rattle.edges.specs.Tests.{pastLimit}
 use Rattle.edges.specs.Frequent.{raisedB, phaseB, inboundB, callB, risenB, releasedB, initB, reqB}
 use Rattle.edges.proofs.Laws.{inbound-data}
@@ -36,7 +36,7 @@ released-alone false = refl
 abbrev plainB : Edges → Bool → ℕ → State → State
 plainB g was byte s =
     withQuiet (g .quiet)
-    (withStatus (raisedB (mismatched s && not was) (g .reqrises) (g .late) (s .status)) (countedB false (g .counted) (g .reqfalls) (storedB (g .stored) byte s)))
+    (withStatus (raisedB (mismatched s && not was) (g .reqrises) (g .late) (s .status)) (offsetB false (g .within) (g .reqfalls) (storedB (g .stored) byte s)))
 
 applied-plain : (g : Edges) (was : Bool) (s : State) → g .rstrises ≡ false → g .paritybad ≡ false → g .free ≡ false → appliedFrom g was s ≡ plainB g was (dataSeen s) s
 unfolding appliedFrom registersB transferB statusB mismatched matched connected bsySeen selSeen rstSeen
@@ -72,12 +72,12 @@ pub inbound-as : (s : State) {late : Bool} {byte : ℕ} → ioSeen s ≡ true �
 inbound-as s h f g =
     λ i. withStatus (raisedB false false (f i) (s .status)) (storedB (sym h i) (g i) s)
 
--- a synchronous REQ that is counted, or is not
-pub uncounted : (call : Bool) (s : State) → (call && not (beyondLimit s)) ≡ false → risenB call s ≡ s
-uncounted call s e = rw e
+-- a synchronous REQ within the limit, or beyond it
+pub not-within : (call : Bool) (s : State) → (call && not (beyondLimit s)) ≡ false → risenB call s ≡ s
+not-within call s e = rw e
 
-pub counted : (call : Bool) (s : State) → (call && not (beyondLimit s)) ≡ true → countedB false true false (inboundB true s) ≡ risenB call s
-counted call s e = rw e
+pub within-limit : (call : Bool) (s : State) → (call && not (beyondLimit s)) ≡ true → offsetB false true false (inboundB true s) ≡ risenB call s
+within-limit call s e = rw e
 
 pub beyond-at : (m : List ℕ) → m ≡ imageOf (stateAt m) → {b : Bool} → b ≡ pastLimit (getD m scsiCountPlace 0) (stateAt m) → b ≡ beyondLimit (stateAt m)
 unfolding beyondLimit

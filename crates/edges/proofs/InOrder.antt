@@ -7,7 +7,7 @@ use mathlib.Core.Bool.{Bool, true, false, not, _&&_, _||_, cond, and-false}
 use mathlib.Core.List.{List, [], _∷_, _++_, append-nil}
 use Rattle.rules.specs.State.{State}
 use Rattle.rules.specs.Seen.{rstSeen, reqSeen, ioSeen, bsySeen, selSeen, connected, matched, mismatched, dataSeen}
-use Rattle.rules.specs.StepB.{reqFalls, ackReleased, afterReqFalls, rstRises, busReset, afterRstRises, reqRises, parityBad, attention, synchronousReq, beyondLimit, beyond, countedReq, lateByte, storedByte, reqRisen, afterReqRises, quietAfter, busFree, busFreed, afterQuietTicks, phaseChanges, phaseChanged, afterPhaseChanges, inOrder}
+use Rattle.rules.specs.StepB.{reqFalls, ackReleased, afterReqFalls, rstRises, busReset, afterRstRises, reqRises, parityBad, attention, synchronousReq, beyondLimit, beyond, reqWithin, lateByte, storedByte, reqRisen, afterReqRises, quietAfter, busFree, busFreed, afterQuietTicks, phaseChanges, phaseChanged, afterPhaseChanges, inOrder}
 use Rattle.rules.specs.Changed.{withStatus, withQuiet}
 use Rattle.image.specs.Image.{stateAt}
 use Rattle.rules.specs.declared.chip.Status.{Status}
@@ -116,7 +116,7 @@ resetEdges falls free quiet =
       reqrises = false;
       paritybad = false;
       beyond = false;
-      counted = false;
+      within = false;
       stored = false;
       late = false;
       free = free;
@@ -131,9 +131,9 @@ risenEdges now free quiet =
       reqrises = true;
       paritybad = parityBad now;
       beyond = synchronousReq now && beyondLimit now;
-      counted = countedReq now;
-      stored = countedReq now && ioSeen now;
-      late = countedReq now && lateByte now;
+      within = reqWithin now;
+      stored = reqWithin now && ioSeen now;
+      late = reqWithin now && lateByte now;
       free = free;
       quiet = quiet;
     }
@@ -146,7 +146,7 @@ otherEdges falls free quiet =
       reqrises = false;
       paritybad = false;
       beyond = false;
-      counted = false;
+      within = false;
       stored = false;
       late = false;
       free = free;
@@ -172,9 +172,9 @@ module _ (was : Bool) (now : State) where
   stored-last true l b = refl
   stored-last false l b = sym (append-nil l)
 
-  stored-as : cond (countedReq now && ioSeen now) (now .transfer .scsi ++ (dataSeen now ∷ [])) (now .transfer .scsi) ≡ now .transfer .scsi ++ storedByte now
+  stored-as : cond (reqWithin now && ioSeen now) (now .transfer .scsi ++ (dataSeen now ∷ [])) (now .transfer .scsi) ≡ now .transfer .scsi ++ storedByte now
   unfolding storedByte
-  stored-as = stored-last (countedReq now && ioSeen now) (now .transfer .scsi) _
+  stored-as = stored-last (reqWithin now && ioSeen now) (now .transfer .scsi) _
 
   applied-risen : (free : Bool) (quiet : ℕ) → appliedFrom (risenEdges now free quiet) was now ≡ endsBy was free quiet (reqRisen now)
   unfolding appliedFrom registersB transferB statusB attention reqRisen busFreed mismatched matched connected bsySeen selSeen rstSeen
@@ -196,7 +196,7 @@ module _ (last : State) (ticks : ℕ) (now : State) where
   edges-reset r = rw (r, left-true (rstSeen now) (not rst) r, and-false)
 
   edges-risen : rstRises last now ≡ false → reqRises last now ≡ true → edgesFrom rst req now ticks ≡ risenEdges now (busFree ticks (reqRisen now)) (quietAfter ticks (reqRisen now))
-  unfolding edgesFrom rstRisesFrom reqRisesFrom synchronousReqFrom quietFrom reqFalls rstRises reqRises synchronousReq countedReq reqRisen quietAfter busFree registersB bsySeen selSeen
+  unfolding edgesFrom rstRisesFrom reqRisesFrom synchronousReqFrom quietFrom reqFalls rstRises reqRises synchronousReq reqWithin reqRisen quietAfter busFree registersB bsySeen selSeen
   edges-risen r u = rw (risen-not-fallen last now u, r, u)
 
   edges-other : rstRises last now ≡ false → reqRises last now ≡ false → edgesFrom rst req now ticks ≡ otherEdges (reqFalls last now) (busFree ticks now) (quietAfter ticks now)

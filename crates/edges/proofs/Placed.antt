@@ -23,9 +23,9 @@ use Rattle.image.proofs.EightBits.{is-one}
 use Rattle.image.proofs.ReadBack.{scsiseq-back, sxfrctl0-back, scsisig-back, status-back}
 use Rattle.image.specs.Layout.{ackPlace, offsetPlace, quietPlace, scsiBytesPlace, scsiCountPlace, scsiseqPlace, scsisigPlace, statusPlace, sxfrctl0Place}
 use Rattle.laws.proofs.Lists.{padded-push, padded-length}
-use Rattle.edges.specs.Components.{scsiseqB, sxfrctl0B, scsisigB, registersB, transferB, storedB, countedB}
+use Rattle.edges.specs.Components.{scsiseqB, sxfrctl0B, scsisigB, registersB, transferB, storedB, offsetB}
 use Rattle.edges.specs.Room.{Room}
-use Rattle.edges.specs.Stored.{registersStored, countStored, statusStored}
+use Rattle.edges.specs.Stored.{registersStored, offsetStored, statusStored}
 use Rattle.datapath.specs.Fits.{byteStored}
 use Rattle.edges.proofs.Laws.{registers-kept}
 
@@ -130,14 +130,14 @@ stored-placed true b s h e f = scsi-placed b s (h refl) e f
 stored-placed false b s h e f = f ∙ e
 
 -- the offset and the automatic ACK in their places
-counted-set : (s : State) (zeroed counted released : Bool) {o : ℕ} {k : Bool} → o ≡ s .transfer .offset → k ≡ s .transfer .ack → set (set (imageOf s) offsetPlace (cond zeroed 0 (cond counted (o + 1) o))) ackPlace (one (not released && k)) ≡ imageOf (countedB zeroed counted released s)
+offset-set : (s : State) (zeroed within released : Bool) {o : ℕ} {k : Bool} → o ≡ s .transfer .offset → k ≡ s .transfer .ack → set (set (imageOf s) offsetPlace (cond zeroed 0 (cond within (o + 1) o))) ackPlace (one (not released && k)) ≡ imageOf (offsetB zeroed within released s)
 unfolding imageOf
-counted-set s zeroed counted released a b = rw (a, b)
+offset-set s zeroed within released a b = rw (a, b)
 
-pub counted-placed : {m n : List ℕ} (zeroed counted released : Bool) (s : State) → m ≡ imageOf s → n ≡ countStored zeroed counted released m → n ≡ imageOf (countedB zeroed counted released s)
-counted-placed zeroed counted released s e f =
-    f ∙ ap (λ (l : List ℕ). countStored zeroed counted released l) e
-    ∙ counted-set s zeroed counted released (offset-at s) (ack-at s)
+pub offsets-placed : {m n : List ℕ} (zeroed within released : Bool) (s : State) → m ≡ imageOf s → n ≡ offsetStored zeroed within released m → n ≡ imageOf (offsetB zeroed within released s)
+offsets-placed zeroed within released s e f =
+    f ∙ ap (λ (l : List ℕ). offsetStored zeroed within released l) e
+    ∙ offset-set s zeroed within released (offset-at s) (ack-at s)
 
 pub offset-of : (m : List ℕ) (s : State) → m ≡ imageOf s → getD m offsetPlace 0 ≡ s .transfer .offset
 offset-of m s e = ap (λ (l : List ℕ). getD l offsetPlace 0) e ∙ offset-at s
@@ -154,7 +154,7 @@ module _ {g : Edges} {m : List ℕ} (byte : ℕ) (i : IsImage m) (room : Room g 
   path-stored = stored-placed (g .stored) byte (stateAt m) place-of (i .packed)
 
 -- both parts of the data path
-pub path-parts : (g : Edges) (byte : ℕ) (s : State) → imageOf (countedB (g .rstrises || g .free) (g .counted) (g .reqfalls || g .rstrises || g .free) (storedB (g .stored) byte s)) ≡ imageOf (transferB g byte s)
+pub path-parts : (g : Edges) (byte : ℕ) (s : State) → imageOf (offsetB (g .rstrises || g .free) (g .within) (g .reqfalls || g .rstrises || g .free) (storedB (g .stored) byte s)) ≡ imageOf (transferB g byte s)
 unfolding transferB
 path-parts g byte s = refl
 
@@ -171,11 +171,11 @@ unfolding imageOf
 quiet-placed m n s e = ap (λ (l : List ℕ). set l quietPlace n) e
 
 -- one REQ more, and the automatic ACK released
-pub offset-placed : (m : List ℕ) (s : State) {offset : ℕ} → offset ≡ s .transfer .offset → m ≡ imageOf s → set m offsetPlace (offset + 1) ≡ imageOf (countedB false true false s)
+pub offset-placed : (m : List ℕ) (s : State) {offset : ℕ} → offset ≡ s .transfer .offset → m ≡ imageOf s → set m offsetPlace (offset + 1) ≡ imageOf (offsetB false true false s)
 unfolding imageOf
 offset-placed m s e f = rw e (ap (λ (l : List ℕ). set l offsetPlace (s .transfer .offset + 1)) f)
 
-pub ack-placed : (m : List ℕ) (s : State) → m ≡ imageOf s → set m ackPlace 0 ≡ imageOf (countedB false false true s)
+pub ack-placed : (m : List ℕ) (s : State) → m ≡ imageOf s → set m ackPlace 0 ≡ imageOf (offsetB false false true s)
 unfolding imageOf
 ack-placed m s e = ap (λ (l : List ℕ). set l ackPlace 0) e
 

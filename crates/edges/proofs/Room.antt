@@ -16,10 +16,10 @@ use Rattle.edges.specs.From.{synchronousReqFrom, edgesFrom}
 use Rattle.edges.specs.Room.{Room}
 use Rattle.edges.specs.Tests.{pastLimit}
 
-counted-room : (g a b : Bool) → (g && not (a || b)) ≡ true → a ≡ false
-counted-room g false b e = refl
-counted-room true true b e = sym e
-counted-room false true b e = sym e
+below-limit : (g a b : Bool) → (g && not (a || b)) ≡ true → a ≡ false
+below-limit g false b e = refl
+below-limit true true b e = sym e
+below-limit false true b e = sym e
 
 stored-room : (g a i c : Bool) → (g && not (a || (i && c)) && i) ≡ true → c ≡ false
 stored-room g a i false e = refl
@@ -29,10 +29,10 @@ stored-room true false false true e = sym e
 stored-room false a i true e = sym e
 
 module _ (rst req : Bool) (s : State) (ticks : ℕ) where
-  offset-room : (edgesFrom rst req s ticks) .counted ≡ true → s .transfer .offset < 8
+  offset-room : (edgesFrom rst req s ticks) .within ≡ true → s .transfer .offset < 8
   unfolding edgesFrom beyondLimit limit
   offset-room e =
-      omega (arith, leb-false (limit (s .registers)) (s .transfer .offset) (counted-room (synchronousReqFrom req s) (leb (limit (s .registers)) (s .transfer .offset)) _ e))
+      omega (arith, leb-false (limit (s .registers)) (s .transfer .offset) (below-limit (synchronousReqFrom req s) (leb (limit (s .registers)) (s .transfer .offset)) _ e))
 
   scsi-room : (edgesFrom rst req s ticks) .stored ≡ true → length (s .transfer .scsi) < 8
   unfolding edgesFrom beyondLimit
@@ -40,7 +40,7 @@ module _ (rst req : Bool) (s : State) (ticks : ℕ) where
       leb-false 8 (length (s .transfer .scsi)) (stored-room (synchronousReqFrom req s) (leb (limit (s .registers)) (s .transfer .offset)) (ioSeen s) (leb 8 (length (s .transfer .scsi))) e)
 
   pub room-from : Room (edgesFrom rst req s ticks) (s .transfer)
-  room-from = record { counted = offset-room; stored = scsi-room }
+  room-from = record { within = offset-room; stored = scsi-room }
 
 -- the same, of the bytes of an array
 module _ (m : List ℕ) {b : Bool} (e : b ≡ pastLimit (getD m scsiCountPlace 0) (stateAt m)) (f : b ≡ false) where
@@ -50,7 +50,7 @@ module _ (m : List ℕ) {b : Bool} (e : b ≡ pastLimit (getD m scsiCountPlace 0
   pub count-left : getD m offsetPlace 0 < 8
   unfolding limit stateAt
   count-left =
-      omega (arith, leb-false (limit (s .registers)) (s .transfer .offset) (counted-room true _ (ioSeen s && leb 8 (getD m scsiCountPlace 0)) (ap not (sym e ∙ f))))
+      omega (arith, leb-false (limit (s .registers)) (s .transfer .offset) (below-limit true _ (ioSeen s && leb 8 (getD m scsiCountPlace 0)) (ap not (sym e ∙ f))))
 
   pub place-left : ioSeen s ≡ true → getD m scsiCountPlace 0 < 8
   place-left h =

@@ -76,7 +76,7 @@ stays false q = stays-by q (leb 8 q) refl
 
 -- nothing rises, nothing falls
 abbrev stillAt : ℕ → Edges
-stillAt q = record { reqfalls = false; rstrises = false; reqrises = false; paritybad = false; beyond = false; counted = false; stored = false; late = false; free = false; quiet = q }
+stillAt q = record { reqfalls = false; rstrises = false; reqrises = false; paritybad = false; beyond = false; within = false; stored = false; late = false; free = false; quiet = q }
 
 module _ (s : State) where
   abbrev rst : Bool

@@ -74,15 +74,15 @@ abbrev pub storedB : Bool → ℕ → State → State
 storedB stored byte s = withScsi (cond stored (s .transfer .scsi ++ (byte ∷ [])) (s .transfer .scsi)) s
 
 -- "offset goes up one"; "automatic ACK is released"
-abbrev pub countedB : Bool → Bool → Bool → State → State
-countedB zeroed counted released s =
+abbrev pub offsetB : Bool → Bool → Bool → State → State
+offsetB zeroed within released s =
     withAck (not released && s .transfer .ack)
-    (withOffset (cond zeroed 0 (cond counted (s .transfer .offset + 1) (s .transfer .offset))) s)
+    (withOffset (cond zeroed 0 (cond within (s .transfer .offset + 1) (s .transfer .offset))) s)
 
 -- "offset goes up one and an inbound byte is stored"; "automatic ACK is released"; "FIFOs and counter stay."
 unfoldable pub transferB : Edges → ℕ → State → State
 transferB g byte s =
-    countedB (g .rstrises || g .free) (g .counted) (g .reqfalls || g .rstrises || g .free) (storedB (g .stored) byte s)
+    offsetB (g .rstrises || g .free) (g .within) (g .reqfalls || g .rstrises || g .free) (storedB (g .stored) byte s)
 
 -- the status, where the phase changed or not
 unfoldable pub statusB : Edges → Bool → Status → Status

@@ -6,7 +6,7 @@ use Rattle.rules.specs.StepB.{beyondLimit, lateByte}
 use Rattle.rules.specs.declared.chip.Status.{Status}
 use Rattle.rules.specs.Changed.{withStatus}
 use Rattle.edges.specs.From.{reqRisesFrom, synchronousReqFrom}
-use Rattle.edges.specs.Components.{storedB, countedB}
+use Rattle.edges.specs.Components.{storedB, offsetB}
 
 -- PHASECHG, REQINIT and SYNCERR set
 abbrev pub raisedB : Bool → Bool → Bool → Status → Status
@@ -28,21 +28,21 @@ phaseB was s = withStatus (raisedB (mismatched s && not was) false false (s .sta
 
 -- "inbound with offset 0 and the SCSI FIFO not empty sets SYNCERR"; "an inbound byte is stored"
 abbrev pub inboundB : Bool → State → State
-inboundB counted s =
-    withStatus (raisedB false false (counted && lateByte s) (s .status)) (storedB (counted && ioSeen s) (s .lines .byte) s)
+inboundB within s =
+    withStatus (raisedB false false (within && lateByte s) (s .status)) (storedB (within && ioSeen s) (s .lines .byte) s)
 
 -- "If matched, path and synchronous"
 abbrev pub callB : State → Bool
 callB s = matched s && path (s .registers) && synchronous s
 
--- a synchronous REQ: beyond the limit it is not counted
+-- a synchronous REQ: beyond the limit nothing changes
 abbrev pub risenB : Bool → State → State
 risenB call s =
-    countedB false (call && not (beyondLimit s)) false (inboundB (call && not (beyondLimit s)) s)
+    offsetB false (call && not (beyondLimit s)) false (inboundB (call && not (beyondLimit s)) s)
 
 -- "REQ falls: automatic ACK is released"; "REQ rises and RST not seen: REQINIT is set"
 abbrev pub releasedB : Bool → State → State
-releasedB falls s = countedB false false falls s
+releasedB falls s = offsetB false false falls s
 
 abbrev pub initB : Bool → State → State
 initB rises s = withStatus (raisedB false rises false (s .status)) s

@@ -6,7 +6,7 @@ use lib.ListN.{length}
 use Rattle.rules.specs.State.{Transfer}
 use Rattle.edges.specs.declared.edges.Edges.{Edges}
 
--- a REQ that is counted is below 8, and a byte that is stored has a place
+-- a REQ within the limit is below 8, and a byte that is stored has a place
 pub record Room (g : Edges) (t : Transfer) : Type 0 where
-  pub counted : g .counted ≡ true → t .offset < 8
+  pub within : g .within ≡ true → t .offset < 8
   pub stored : g .stored ≡ true → length (t .scsi) < 8

@@ -16,7 +16,8 @@ seenOf m = record { seq = getD m scsiseqPlace 0; sig = getD m scsisigPlace 0; up
 -- an array with nothing else in it
 abbrev pub spread : Seen → List ℕ
 spread x =
-    set (set (set (set (replicate imageSize 0) scsiseqPlace (x .seq)) scsisigPlace (x .sig)) upperPlace (x .upper)) controlPlace (x .control)
+    set (set (set (set (replicate imageSize 0) scsiseqPlace (x .seq)) scsisigPlace (x .sig)) upperPlace (x .upper)) controlPlace
+    (x .control)
 
 -- a state of which nothing else is known
 abbrev pub lastOf : Seen → State

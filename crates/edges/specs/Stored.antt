@@ -21,9 +21,9 @@ registersStored reset bad free m =
     (scsisigByte (scsisigB (reset || free) (bad && q .enautoatnp) g))
 
 -- the offset and the automatic ACK
-abbrev pub countStored : Bool → Bool → Bool → List ℕ → List ℕ
-countStored zeroed counted released m =
-    set (set m offsetPlace (cond zeroed 0 (cond counted (getD m offsetPlace 0 + 1) (getD m offsetPlace 0)))) ackPlace
+abbrev pub offsetStored : Bool → Bool → Bool → List ℕ → List ℕ
+offsetStored zeroed within released m =
+    set (set m offsetPlace (cond zeroed 0 (cond within (getD m offsetPlace 0 + 1) (getD m offsetPlace 0)))) ackPlace
     (one (not released && eqb (getD m ackPlace 0) 1))
 
 -- the status, changed by a part of B

@@ -9,7 +9,7 @@ ghost use Rattle.rules.specs.Seen.{dataSeen};
 ghost use Rattle.image.specs.Image.{imageOf, stateAt, IsImage, scsisigByte, statusOf, statusByte};
 ghost use Rattle.edges.specs.Components.{scsiseqB, sxfrctl0B, scsisigB, transferB, statusB};
 ghost use Rattle.edges.specs.Room.{Room};
-ghost use Rattle.edges.specs.Stored.{registersStored, countStored, statusStored};
+ghost use Rattle.edges.specs.Stored.{registersStored, offsetStored, statusStored};
 ghost use Rattle.datapath.specs.Fits.{byteStored};
 ghost use Rattle.image.specs.Layout.{offsetPlace, scsiCountPlace};
 use crate::edges::Edges;
@@ -143,14 +143,14 @@ fn scsi_in(m: &mut Image, stored: bool, byte: u8)
     }
 }
 
-fn offset_b(zeroed: bool, counted: bool, offset: u8) -> u8
-    requires { ⌜ (counted ≡ true → offset < 8) ⌝ }
-    ensures { λ n. ⌜ n ≡ cond zeroed 0 (cond counted (offset + 1) offset) ⌝ }
+fn offset_b(zeroed: bool, within: bool, offset: u8) -> u8
+    requires { ⌜ (within ≡ true → offset < 8) ⌝ }
+    ensures { λ n. ⌜ n ≡ cond zeroed 0 (cond within (offset + 1) offset) ⌝ }
 {
     if zeroed {
         return 0;
     }
-    if counted { offset + 1 } else { offset }
+    if within { offset + 1 } else { offset }
 }
 
 fn ack_b(released: bool, ack: bool) -> u8
@@ -160,11 +160,11 @@ fn ack_b(released: bool, ack: bool) -> u8
 }
 
 // "offset goes up one"; "automatic ACK is released"
-fn counted_in(m: &mut Image, zeroed: bool, counted: bool, released: bool)
-    requires { ⌜ (counted ≡ true → getD (now m) offsetPlace 0 < 8) ⌝ }
-    ensures { λ _. ⌜ now (m .exit) ≡ countStored zeroed counted released (now (m .entry)) ⌝ }
+fn offset_in(m: &mut Image, zeroed: bool, within: bool, released: bool)
+    requires { ⌜ (within ≡ true → getD (now m) offsetPlace 0 < 8) ⌝ }
+    ensures { λ _. ⌜ now (m .exit) ≡ offsetStored zeroed within released (now (m .entry)) ⌝ }
 {
-    let offset = offset_b(zeroed, counted, m[OFFSET]);
+    let offset = offset_b(zeroed, within, m[OFFSET]);
     let ack = ack_b(released, automatic_ack(m));
     m[OFFSET] = offset;
     m[ACK] = ack;
@@ -177,10 +177,10 @@ pub fn path_in(m: &mut Image, g: Edges, byte: u8)
     ensures { λ _. ⌜ now (m .exit) ≡ imageOf (transferB g byte (stateAt (now (m .entry)))) ⌝ }
 {
     scsi_in(m, g.stored, byte);
-    counted_in(
+    offset_in(
         m,
         g.rstrises | g.free,
-        g.counted,
+        g.within,
         g.reqfalls | g.rstrises | g.free,
     );
 }

@@ -6,7 +6,7 @@ pub struct Edges {
     pub reqrises: bool,
     pub paritybad: bool,
     pub beyond: bool,
-    pub counted: bool,
+    pub within: bool,
     pub stored: bool,
     pub late: bool,
     pub free: bool,

@@ -110,11 +110,11 @@ pub fn beyond_limit(m: &Image, req: bool) -> bool
     }
 }
 
-// "inbound with offset 0 and the SCSI FIFO not empty", at a REQ that is counted
-pub fn late_byte(m: &Image, counted: bool) -> bool
-    ensures { λ b. ⌜ b ≡ (counted && lateBehind (getD (now (m .entry)) scsiCountPlace 0) (stateAt (now (m .entry)))) ⌝ }
+// "inbound with offset 0 and the SCSI FIFO not empty", at a REQ within the limit
+pub fn late_byte(m: &Image, within: bool) -> bool
+    ensures { λ b. ⌜ b ≡ (within && lateBehind (getD (now (m .entry)) scsiCountPlace 0) (stateAt (now (m .entry)))) ⌝ }
 {
-    if counted {
+    if within {
         io_seen(m) & (m[OFFSET] == 0) & (0 < m[SCSI_COUNT])
     } else {
         false

@@ -51,7 +51,7 @@ fn edges_of(m: &Image, was: Before, ticks: u32) -> Edges
         reqrises: rises,
         paritybad: bad,
         beyond: beyond,
-        counted: req & !beyond,
+        within: req & !beyond,
         stored: req & !beyond & io_seen(m),
         late: late,
         free: (8 <= quiet) & !(8 <= m[QUIET]),

@@ -68,7 +68,7 @@ fn inbound_in(m: &mut Image)
     }
 }
 
-// A REQ that rose: a synchronous one is counted, or is beyond the limit.
+// A REQ that rose: a synchronous one is within the limit, or is beyond the limit.
 fn risen(m: &mut Image) -> bool
     requires { ⌜ now m ≡ imageOf (stateAt (now m)) ⌝ }
     ensures { λ b. ⌜ b ≡ (callB (stateAt (now (m .entry))) && beyondLimit (stateAt (now (m .entry)))) ⌝ }

@@ -40,7 +40,8 @@ hostCleared s v = withHost (cond (bit v 1) [] (s .transfer .host)) s
 
 -- an Automatic ACK "turns automatic ACK on, adds one to the counter"
 abbrev pub ackCounted : Bool → State → State
-ackCounted acked s = withAck (acked || s .transfer .ack) (withCounter (cond acked (counted (s .transfer .counter)) (s .transfer .counter)) s)
+ackCounted acked s =
+    withAck (acked || s .transfer .ack) (withCounter (cond acked (counted (s .transfer .counter)) (s .transfer .counter)) s)
 
 -- the state after a write at o; its unfolding is all that A looks at
 unfoldable pub Leaving : ℕ → (State → ℕ → State) → Type 0

@@ -36,14 +36,14 @@ module _ (P : State → Type 0) (last n : State) (p : P n) where
 ticks-make : (P : State → Type 0) → ((n : State) → P n → P (busFreed n)) → (ticks : ℕ) (n : State) → P (withQuiet (quietAfter ticks n) n) → P (afterQuietTicks ticks n)
 unfolding afterQuietTicks
 ticks-make P f ticks n p =
-    let counted = withQuiet (quietAfter ticks n) n in
-    cond-case P (busFree ticks n) (busFreed counted) counted (λ h. f counted p) (λ h. p)
+    let ticked = withQuiet (quietAfter ticks n) n in
+    cond-case P (busFree ticks n) (busFreed ticked) ticked (λ h. f ticked p) (λ h. p)
 
 -- what every step but "REQ rises" keeps
 pub record Spares (P : State → Type 0) : Type 0 where
   pub released : (n : State) → P n → P (ackReleased n)
   pub reset : (n : State) → P n → P (busReset n)
-  pub counted : (n : State) (ticks : ℕ) → P n → P (withQuiet (quietAfter ticks n) n)
+  pub ticked : (n : State) (ticks : ℕ) → P n → P (withQuiet (quietAfter ticks n) n)
   pub freed : (n : State) → P n → P (busFreed n)
   pub changed : (n : State) → P n → P (phaseChanged n)
 
@@ -55,7 +55,7 @@ module _ (P : State → Type 0) (k : Spares P) (s : State) (e : Event) where
   resets n p = reset-keeps P s n p (k .reset n)
 
   ticks : (n : State) → P n → P (afterQuietTicks (ticksOf e) n)
-  ticks n p = ticks-make P (k .freed) (ticksOf e) n (k .counted n (ticksOf e) p)
+  ticks n p = ticks-make P (k .freed) (ticksOf e) n (k .ticked n (ticksOf e) p)
 
   phase : (n : State) → P n → P (afterPhaseChanges s n)
   phase n p = phase-keeps P s n p (k .changed n)
@@ -73,13 +73,13 @@ pub record Keeps (P : State → Type 0) : Type 0 where
   pub released : (n : State) → P n → P (ackReleased n)
   pub reset : (n : State) → P n → P (busReset n)
   pub risen : (n : State) → P n → P (reqRisen n)
-  pub counted : (n : State) (ticks : ℕ) → P n → P (withQuiet (quietAfter ticks n) n)
+  pub ticked : (n : State) (ticks : ℕ) → P n → P (withQuiet (quietAfter ticks n) n)
   pub freed : (n : State) → P n → P (busFreed n)
   pub changed : (n : State) → P n → P (phaseChanged n)
 
 module _ (P : State → Type 0) (k : Keeps P) where
   spares : Spares P
-  spares = record { released = k .released; reset = k .reset; counted = k .counted; freed = k .freed; changed = k .changed }
+  spares = record { released = k .released; reset = k .reset; ticked = k .ticked; freed = k .freed; changed = k .changed }
 
   module _ (s : State) (e : Event) where
     rises : (n : State) → P n → P (afterReqRises s n)
@@ -92,10 +92,10 @@ module _ (P : State → Type 0) (k : Keeps P) where
     -- what the count of the quiet ticks makes so
     pub ticks-leave : ((ticks : ℕ) (n : State) → P (withQuiet (quietAfter ticks n) n)) → P (afterB s e)
     unfolding afterB inOrder
-    ticks-leave made = search (counted, falls P spares s e, resets P spares s e, rises, phase P spares s e) depth 7
+    ticks-leave made = search (ticked, falls P spares s e, resets P spares s e, rises, phase P spares s e) depth 7
       where
-        counted : (n : State) → P (afterQuietTicks (ticksOf e) n)
-        counted n = ticks-make P (k .freed) (ticksOf e) n (made (ticksOf e) n)
+        ticked : (n : State) → P (afterQuietTicks (ticksOf e) n)
+        ticked n = ticks-make P (k .freed) (ticksOf e) n (made (ticksOf e) n)
 
 -- RST, once it is seen to rise, is so to the end of B
 rising : (s : State) → Spares (λ n. rstRises s n ≡ true)
@@ -104,7 +104,7 @@ rising s =
     record {
       released = λ n h. h;
       reset = λ n h. h;
-      counted = λ n ticks h. h;
+      ticked = λ n ticks h. h;
       freed = λ n h. h;
       changed = λ n h. h;
     }
@@ -155,7 +155,7 @@ apart a =
       released = λ n h. h;
       reset = λ n h. h;
       risen = λ n h. h;
-      counted = λ n ticks h. h;
+      ticked = λ n ticks h. h;
       freed = λ n h. h;
       changed = λ n h. h;
     }
@@ -168,7 +168,7 @@ scsien-off =
       released = λ n h. h;
       reset = λ n h. refl;
       risen = λ n h. h;
-      counted = λ n ticks h. h;
+      ticked = λ n ticks h. h;
       freed = λ n h. h;
       changed = λ n h. h;
     }
@@ -180,7 +180,7 @@ acko-off =
       released = λ n h. h;
       reset = λ n h. refl;
       risen = λ n h. h;
-      counted = λ n ticks h. h;
+      ticked = λ n ticks h. h;
       freed = λ n h. refl;
       changed = λ n h. h;
     }
@@ -192,7 +192,7 @@ ioexp-off =
       released = λ n h. h;
       reset = λ n h. refl;
       risen = λ n h. h;
-      counted = λ n ticks h. h;
+      ticked = λ n ticks h. h;
       freed = λ n h. refl;
       changed = λ n h. h;
     }
@@ -207,7 +207,7 @@ holding l =
     record {
       released = λ n h. h;
       reset = λ n h. h;
-      counted = λ n ticks h. h;
+      ticked = λ n ticks h. h;
       freed = λ n h. h;
       changed = λ n h. h;
     }

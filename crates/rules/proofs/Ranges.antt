@@ -22,7 +22,7 @@ use Rattle.rules.specs.Interrupts.{phasemis, instat, irq}
 use Rattle.rules.specs.Reads.{scsisigi, scsibus, sstat0, sstat1, sstat2, sstat3, sstat4, dmastat, idBytes, readOf, readMapped, valueRead}
 use Rattle.rules.specs.Codes.{noRoom, accessCode, refusedValue, isDone}
 use Rattle.rules.specs.StepA.{clrstcnt, clrch, rstfifo, automaticAck, registersA, hostA, counterA, transferA, stackA, identityA, afterA}
-use Rattle.rules.specs.StepB.{ackReleased, registersWith, offsetCleared, busReset, beyondLimit, countedReq, synchronousReq, storedByte, reqRisen, quietAfter, busFreed, phaseChanged, afterB}
+use Rattle.rules.specs.StepB.{ackReleased, registersWith, offsetCleared, busReset, beyondLimit, reqWithin, synchronousReq, storedByte, reqRisen, quietAfter, busFreed, phaseChanged, afterB}
 use Rattle.rules.specs.StepC.{Settling, conditions, canMove, move, canHandshake, storedBy, handshake, settle, turns, started, settledC}
 use Rattle.rules.specs.StepD.{finished, afterD}
 use Rattle.rules.specs.Answers.{Stepped, controlDriven, answerOf, answerBytes}
@@ -302,11 +302,11 @@ pub data-seen-fits : (s : State) → s .lines .byte < 256 → RegistersBytes (s 
 unfolding dataSeen
 data-seen-fits s h i j = or-lt 8 (s .lines .byte) (dataDriven s) h (data-driven-fits s i j)
 
--- a REQ that is counted is below the limit, and a byte that is stored has room
-counted-room : (g a b : Bool) → (g && not (a || b)) ≡ true → a ≡ false
-counted-room g false b e = refl
-counted-room true true b e = sym e
-counted-room false true b e = sym e
+-- a REQ within the limit is below it, and a byte that is stored has room
+below-limit : (g a b : Bool) → (g && not (a || b)) ≡ true → a ≡ false
+below-limit g false b e = refl
+below-limit true true b e = sym e
+below-limit false true b e = sym e
 
 stored-room : (g a i c : Bool) → (g && not (a || (i && c)) && i) ≡ true → c ≡ false
 stored-room g a i false e = refl
@@ -316,13 +316,13 @@ stored-room true false false true e = sym e
 stored-room false a i true e = sym e
 
 module _ (now : State) where
-  offset-room : countedReq now ≡ true → now .transfer .offset < 8
-  unfolding countedReq beyondLimit limit
+  offset-room : reqWithin now ≡ true → now .transfer .offset < 8
+  unfolding reqWithin beyondLimit limit
   offset-room e =
-      omega (arith, leb-false (limit (now .registers)) (now .transfer .offset) (counted-room (synchronousReq now) (leb (limit (now .registers)) (now .transfer .offset)) _ e))
+      omega (arith, leb-false (limit (now .registers)) (now .transfer .offset) (below-limit (synchronousReq now) (leb (limit (now .registers)) (now .transfer .offset)) _ e))
 
-  scsi-room : (countedReq now && ioSeen now) ≡ true → length (now .transfer .scsi) < 8
-  unfolding countedReq beyondLimit
+  scsi-room : (reqWithin now && ioSeen now) ≡ true → length (now .transfer .scsi) < 8
+  unfolding reqWithin beyondLimit
   scsi-room e =
       leb-false 8 (length (now .transfer .scsi)) (stored-room (synchronousReq now) (leb (limit (now .registers)) (now .transfer .offset)) (ioSeen now) (leb 8 (length (now .transfer .scsi))) e)
 
@@ -343,10 +343,10 @@ module _ (now : State) where
       record {
         host = i .host;
         scsi =
-            cond-case (λ (l : List ℕ). length (now .transfer .scsi ++ l) ≤ 8) (countedReq now && ioSeen now) _ _
+            cond-case (λ (l : List ℕ). length (now .transfer .scsi ++ l) ≤ 8) (reqWithin now && ioSeen now) _ _
             (λ e. simp length-append (omega (arith, scsi-room now e))) (λ e. simp length-append (omega (arith, i .scsi)));
         counter = i .counter;
-        offset = cond-case (λ n. n ≤ 8) (countedReq now) _ _ (λ e. omega (arith, offset-room now e)) (λ e. i .offset);
+        offset = cond-case (λ n. n ≤ 8) (reqWithin now) _ _ (λ e. omega (arith, offset-room now e)) (λ e. i .offset);
       }
 
   bytes-risen : InBytes now → Bytes ((reqRisen now) .transfer .scsi)
@@ -354,7 +354,7 @@ module _ (now : State) where
   bytes-risen i =
       let seen = data-seen-fits now (i .lines) (i .registers) (i .transfer) in
       bytes-append (now .transfer .scsi) (storedByte now) (i .transfer .scsi)
-      (cond-case Bytes (countedReq now && ioSeen now) _ _ (λ e. (seen, tt)) (λ e. tt))
+      (cond-case Bytes (reqWithin now && ioSeen now) _ _ (λ e. (seen, tt)) (λ e. tt))
 
   quiet-fits : (ticks : ℕ) → quietAfter ticks now ≤ 8
   unfolding quietAfter
@@ -393,7 +393,7 @@ range-keeps =
             quiet = i .quiet;
             identity = i .identity;
           };
-      counted =
+      ticked =
           λ n ticks i.
           record { registers = i .registers; transfer = i .transfer; stack = i .stack; quiet = quiet-fits n ticks; identity = i .identity };
       freed =
@@ -428,7 +428,7 @@ bytes-keeps =
           let t = i .transfer in
           let registers = registers-bytes-with _ _ _ (n .registers) (i .registers) in
           record { lines = i .lines; registers = registers; transfer = record { last = t .last; host = t .host; scsi = bytes-risen n i }; stack = i .stack };
-      counted = λ n ticks i. record { lines = i .lines; registers = i .registers; transfer = i .transfer; stack = i .stack };
+      ticked = λ n ticks i. record { lines = i .lines; registers = i .registers; transfer = i .transfer; stack = i .stack };
       freed =
           λ n i.
           let t = i .transfer in

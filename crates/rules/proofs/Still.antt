@@ -322,7 +322,7 @@ checked-keeps =
       released = λ n k. k;
       reset = λ n k. k;
       risen = λ n k h. rw (unchecked n h) (k h);
-      counted = λ n ticks k. k;
+      ticked = λ n ticks k. k;
       freed = λ n k. k;
       changed = λ n k. k;
     }
@@ -367,7 +367,7 @@ hushed-keeps =
       released = λ n k. k;
       reset = λ n k h. k (reset-busy n h);
       risen = λ n k. k;
-      counted = λ n ticks k. busy-counts ticks n;
+      ticked = λ n ticks k. busy-counts ticks n;
       freed = λ n k h. k (freed-busy n h);
       changed = λ n k. k;
     }

@@ -122,9 +122,9 @@ beyondLimit now =
 unfoldable pub beyond : State → State → Bool
 beyond last now = reqRises last now && synchronousReq now && beyondLimit now
 
--- "else ... offset goes up one": a synchronous REQ that is counted
-unfoldable pub countedReq : State → Bool
-countedReq now = synchronousReq now && not (beyondLimit now)
+-- "else ... offset goes up one": a synchronous REQ within the limit
+unfoldable pub reqWithin : State → Bool
+reqWithin now = synchronousReq now && not (beyondLimit now)
 
 -- "else, inbound with offset 0 and the SCSI FIFO not empty sets SYNCERR"
 unfoldable pub lateByte : State → Bool
@@ -134,7 +134,7 @@ lateByte now =
 -- "and an inbound byte is stored": that byte, the data seen, or none
 unfoldable pub storedByte : State → List ℕ
 storedByte now =
-    cond (countedReq now && ioSeen now)
+    cond (reqWithin now && ioSeen now)
     (dataSeen now ∷ []) []
 
 -- "REQINIT. ... SCSIPERR, and with ENAUTOATNP 343h bit 4. ... SYNCERR, then offset goes up one and an inbound byte is stored."
@@ -151,11 +151,11 @@ reqRisen now =
       scsiperr = parityBad now || k .scsiperr;
       phasechg = k .phasechg;
       reqinit = true;
-      syncerr = (countedReq now && lateByte now) || k .syncerr;
+      syncerr = (reqWithin now && lateByte now) || k .syncerr;
       fwerr = k .fwerr;
     })
     (withRegisters (registersWith (r .scsiseq) (r .sxfrctl0) (withAtn (attention now || r .scsisig .atno) (r .scsisig)) r)
-    (withOffset (cond (countedReq now) (t .offset + 1) (t .offset)) (withScsi (t .scsi ++ storedByte now) now)))
+    (withOffset (cond (reqWithin now) (t .offset + 1) (t .offset)) (withScsi (t .scsi ++ storedByte now) now)))
 
 unfoldable pub afterReqRises : State → State → State
 afterReqRises last now = cond (reqRises last now) (reqRisen now) now

@@ -164,7 +164,7 @@ ack-before s e p =
       released = λ n h t. absurd (never t);
       reset = λ n h t. absurd (never t);
       risen = λ n h. h;
-      counted = λ n ticks h. h;
+      ticked = λ n ticks h. h;
       freed = λ n h t. absurd (never t);
       changed = λ n h. h;
     })

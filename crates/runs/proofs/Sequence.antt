@@ -237,7 +237,7 @@ at0 =
     record {
       released = λ n h. h;
       reset = λ n h. refl;
-      counted = λ n ticks h. h;
+      ticked = λ n ticks h. h;
       freed = λ n h. refl;
       changed = λ n h. h;
     }

@@ -12,7 +12,7 @@ use Rattle.rules.specs.Seen.{ioSeen, automatic, normal, matched, path}
 use Rattle.rules.specs.Events.{writes, valueOf, offered, asked, wide, portWrite, portRead}
 use Rattle.rules.specs.Codes.{shut, noRoom}
 use Rattle.rules.specs.StepA.{clrstcnt, clrch, rstfifo, automaticAck, registersA, hostA, counterA, transferA, afterA}
-use Rattle.rules.specs.StepB.{ackReleased, busReset, reqRises, synchronousReq, countedReq, storedByte, reqRisen, busFreed, phaseChanged, atReq, afterB}
+use Rattle.rules.specs.StepB.{ackReleased, busReset, reqRises, synchronousReq, reqWithin, storedByte, reqRisen, busFreed, phaseChanged, atReq, afterB}
 use Rattle.rules.specs.declared.registers.Registers.{Registers}
 use Rattle.rules.specs.declared.registers.Sxfrctl0.{Sxfrctl0}
 use Rattle.rules.specs.declared.map.Register.the-variants.{SXFRCTL0}
@@ -63,7 +63,7 @@ held-B w =
       released = λ n h. h;
       reset = λ n h. record { direction = h .direction; spioen = h .spioen; acko = refl };
       risen = λ n h. record { direction = h .direction; spioen = h .spioen; acko = h .acko };
-      counted = λ n ticks h. h;
+      ticked = λ n ticks h. h;
       freed = λ n h. record { direction = h .direction; spioen = h .spioen; acko = refl };
       changed = λ n h. h;
     }
@@ -81,7 +81,7 @@ spioen-A s e = ap (λ (a : Apart). a .spioen) (b-leaves s e)
 
 -- outbound no REQ stores a byte: it is matched only with IO not seen
 outbound-byte : (n : State) → n .registers .dmacntrl0 .write ≡ true → storedByte n ≡ []
-unfolding storedByte countedReq synchronousReq matched path
+unfolding storedByte reqWithin synchronousReq matched path
 outbound-byte n w = go (ioSeen n) (n .registers .scsisig .ioexp) refl refl
   where
     go : (i x : Bool) → ioSeen n ≡ i → n .registers .scsisig .ioexp ≡ x → storedByte n ≡ []

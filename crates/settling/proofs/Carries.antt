@@ -12,7 +12,7 @@ use Rattle.rules.proofs.Ranges.{bytes-append, bytes-take}
 use Rattle.image.specs.Image.{headOf, imageOf, stateAt, IsImage}
 use Rattle.image.specs.Layout.{hostBytesPlace, hostCountPlace, scsiBytesPlace, scsiCountPlace}
 use Rattle.datapath.proofs.Ends.{scsi-behind, host-behind}
-use Rattle.datapath.proofs.Fronts.{counted, placed-at, sized-at}
+use Rattle.datapath.proofs.Fronts.{host-counts, placed-at, sized-at}
 use Rattle.datapath.proofs.Heads.{scsi-counted}
 use Rattle.datapath.proofs.Places.{Sized, image-laid, scsi-from, host-from}
 use Rattle.settling.specs.Blocks.{carried}
@@ -23,7 +23,7 @@ pub scsi-held : (m : List ℕ) → IsImage m → getD m scsiCountPlace 0 ≡ len
 scsi-held m i = scsi-counted (stateAt m) (i .packed) (placed-at m i)
 
 pub host-held : (m : List ℕ) → IsImage m → getD m hostCountPlace 0 ≡ length ((stateAt m) .transfer .host)
-host-held m i = counted (placed-at m i) (i .packed)
+host-held m i = host-counts (placed-at m i) (i .packed)
 
 -- m₁: a block stands behind the one FIFO, and in the other still
 module _ (m m₁ : List ℕ) (k n : ℕ) (i : IsImage m) where

@@ -3,7 +3,7 @@ use native.Mathlib.Omega.{arith}
 use lib.ListN.{length}
 use borrow.Author.Needs.{needs}
 use Rattle.image.specs.Image.{stateAt}
-use Rattle.datapath.proofs.Fronts.{image-length, placed-at, counted}
+use Rattle.datapath.proofs.Fronts.{image-length, placed-at, host-counts}
 use Rattle.datapath.proofs.Ends.{host-off}
 use Rattle.datapath.proofs.host.host_popped.Statement.{statement}
 use Rattle.datapath.proofs.host.host_popped.Tie as tie
@@ -12,7 +12,7 @@ held : (c : tie.After-wide) → c .wide .result ≡ length ((stateAt (c .before 
 held c =
     let a = c .before .before in
     let p = placed-at (a .args .m .now) (a .pre .0) in
-    c .wide .ensures ∙ counted p (a .pre .0 .packed)
+    c .wide .ensures ∙ host-counts p (a .pre .0 .packed)
 
 moved-down-requires : tie.Need-moved-down-requires
 moved-down-requires c κs =

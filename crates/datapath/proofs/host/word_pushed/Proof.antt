@@ -9,7 +9,7 @@ use Rattle.image.specs.Image.{imageOf, stateAt}
 use Rattle.rules.specs.Changed.{withHost}
 use Rattle.image.specs.Layout.{hostBytesPlace, hostCountPlace}
 use Rattle.datapath.specs.Fits.{FitsPlaces}
-use Rattle.datapath.proofs.Fronts.{counted, with-host, placed-at}
+use Rattle.datapath.proofs.Fronts.{host-counts, with-host, placed-at}
 use Rattle.datapath.proofs.Ends.{host-one-more}
 use Rattle.datapath.proofs.host.word_pushed.Statement.{statement}
 use Rattle.datapath.proofs.host.word_pushed.Tie as tie
@@ -21,13 +21,13 @@ module _ {m : List ℕ} {s : State} (p : FitsPlaces s) (e : m ≡ imageOf s) (b 
 
   low-placed : FitsPlaces (withHost (s .transfer .host ++ (b ∷ [])) s)
   low-placed =
-      let n : getD m hostCountPlace 0 ≡ length (s .transfer .host) = counted p e in
+      let n : getD m hostCountPlace 0 ≡ length (s .transfer .host) = host-counts p e in
       with-host s (s .transfer .host ++ (b ∷ [])) p (simp length-append (omega arith))
 
   room-left : getD a hostCountPlace 0 < 128
   room-left =
-      let n : getD m hostCountPlace 0 ≡ length (s .transfer .host) = counted p e in
-      let k : getD a hostCountPlace 0 ≡ length (s .transfer .host) + 1 = counted low-placed low-first ∙ length-append (s .transfer .host) (b ∷ []) in
+      let n : getD m hostCountPlace 0 ≡ length (s .transfer .host) = host-counts p e in
+      let k : getD a hostCountPlace 0 ≡ length (s .transfer .host) + 1 = host-counts low-placed low-first ∙ length-append (s .transfer .host) (b ∷ []) in
       omega arith
 
 push-requires : tie.Need-push-requires

@@ -2,7 +2,7 @@ use mathlib.Core.Path.{_∙_}
 use mathlib.Core.Bool.{_||_}
 use Rattle.image.specs.Image.{stateAt}
 use Rattle.edges.specs.Components.{storedB}
-use Rattle.edges.proofs.Placed.{place-of, path-stored, room-after, counted-placed, path-parts}
+use Rattle.edges.proofs.Placed.{place-of, path-stored, room-after, offsets-placed, path-parts}
 use Rattle.edges.proofs.after.path_in.Statement.{statement}
 use Rattle.edges.proofs.after.path_in.Tie as tie
 
@@ -11,12 +11,12 @@ scsi-in-requires c κs =
     let start = c .before in
     place-of (start .args .byte) (start .pre .0) (start .pre .1)
 
-counted-in-requires : tie.Need-counted-in-requires
-counted-in-requires c κs =
+offset-in-requires : tie.Need-offset-in-requires
+offset-in-requires c κs =
     let q = c .before .before .before .before in
     let start = q .before .before in
     let a = start .args in
-    λ h. room-after (a .g .stored) (a .byte) (stateAt (a .m .now)) (path-stored (a .byte) (start .pre .0) (start .pre .1) (q .scsi-in .ensures)) (start .pre .1 .counted h)
+    λ h. room-after (a .g .stored) (a .byte) (stateAt (a .m .now)) (path-stored (a .byte) (start .pre .0) (start .pre .1) (q .scsi-in .ensures)) (start .pre .1 .within h)
 
 returns : tie.Need-returns
 returns c =
@@ -25,9 +25,9 @@ returns c =
     let g = start .args .g in
     let b = start .args .byte in
     let s = stateAt (start .args .m .now) in
-    counted-placed (g .rstrises || g .free) (g .counted) (g .reqfalls || g .rstrises || g .free)
-    (storedB (g .stored) b s) (path-stored b (start .pre .0) (start .pre .1) (q .scsi-in .ensures)) (c .counted-in .ensures)
+    offsets-placed (g .rstrises || g .free) (g .within) (g .reqfalls || g .rstrises || g .free)
+    (storedB (g .stored) b s) (path-stored b (start .pre .0) (start .pre .1) (q .scsi-in .ensures)) (c .offset-in .ensures)
     ∙ path-parts g b s
 
 pub path-in-spec : {M : Type 1} → statement M
-path-in-spec = tie.close (tie.spec scsi-in-requires counted-in-requires returns)
+path-in-spec = tie.close (tie.spec scsi-in-requires offset-in-requires returns)

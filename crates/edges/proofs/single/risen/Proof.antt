@@ -8,7 +8,7 @@ use Rattle.image.specs.Image.{imageOf, stateAt}
 use Rattle.edges.specs.Frequent.{inboundB, callB}
 use Rattle.edges.proofs.Placed.{offset-placed}
 use Rattle.edges.proofs.Room.{count-left, place-left}
-use Rattle.edges.proofs.Frequent.{uncounted, counted, beyond-at}
+use Rattle.edges.proofs.Frequent.{not-within, within-limit, beyond-at}
 use Rattle.edges.proofs.single.risen.Statement.{statement}
 use Rattle.edges.proofs.single.risen.Tie as tie
 
@@ -19,7 +19,7 @@ returns c =
     let start = asked .before .before in
     let s = stateAt (start .args .m .now) in
     let off : callB s ≡ false = sym (asked .synchronous-req .ensures) ∙ not-true _ (c .if1 .taken) in
-    (rw off, start .pre ∙ ap imageOf (sym (uncounted (callB s) s (rw off))))
+    (rw off, start .pre ∙ ap imageOf (sym (not-within (callB s) s (rw off))))
 
 returns-2 : tie.Need-returns-2
 unfolding stateAt
@@ -31,7 +31,7 @@ returns-2 c =
     let s = stateAt m in
     let on : callB s ≡ true = sym (called .before .synchronous-req .ensures) ∙ not-false _ (called .if1 .left) in
     let past : beyondLimit s ≡ true = sym (beyond-at m (start .pre) (asked .beyond-limit .ensures)) ∙ c .if2 .taken in
-    (rw (on, past), start .pre ∙ ap imageOf (sym (uncounted (callB s) s (rw (on, past)))))
+    (rw (on, past), start .pre ∙ ap imageOf (sym (not-within (callB s) s (rw (on, past)))))
 
 inbound-in-requires : tie.Need-inbound-in-requires
 inbound-in-requires c κs =
@@ -57,7 +57,7 @@ returns-3 c =
     let on : callB s ≡ true = sym (called .before .synchronous-req .ensures) ∙ not-false _ (called .if1 .left) in
     let below : beyondLimit s ≡ false = sym (beyond-at m (start .pre) (asked .beyond-limit .ensures)) ∙ tested .if2 .left in (
       rw (below, and-false),
-      offset-placed _ (inboundB true s) refl (c .inbound-in .ensures) ∙ ap imageOf (counted (callB s) s (rw (on, below))),
+      offset-placed _ (inboundB true s) refl (c .inbound-in .ensures) ∙ ap imageOf (within-limit (callB s) s (rw (on, below))),
     )
 
 pub risen-spec : {M : Type 1} → statement M

@@ -10,26 +10,26 @@ use Rattle.settling.proofs.moves.carried_in.Statement.{statement}
 use Rattle.settling.proofs.moves.carried_in.Tie as tie
 
 -- the count that is read
-counted : (c : tie.After-wide) → c .wide .result ≡ length ((stateAt (now (c .before .before .args .m))) .transfer .host)
-counted c =
+fifo-counts : (c : tie.After-wide) → c .wide .result ≡ length ((stateAt (now (c .before .before .args .m))) .transfer .host)
+fifo-counts c =
     let a = c .before .before in
     c .wide .ensures ∙ host-held (now (a .args .m)) (a .pre .0)
 
 add-copied : tie.Need-add-copied
-add-copied c = omega (arith, counted (c .before), c .before .before .before .pre .1 .1)
+add-copied c = omega (arith, fifo-counts (c .before), c .before .before .before .pre .1 .1)
 
 copied-requires : tie.Need-copied-requires
 copied-requires c κs =
     let a = c .before .before .before in
     let f = a .pre .0 .range .transfer in
-    let q = counted (c .before) in
+    let q = fifo-counts (c .before) in
     (long (now (a .args .m)) (a .pre .0), (omega (arith, f .scsi, a .pre .1 .0), (omega (arith, a .pre .1 .1), λ l. omega (arith, f .scsi, a .pre .1 .0))))
 
 add-m : tie.Need-add-m
-add-m c = omega (arith, counted (c .before .before), c .before .before .before .before .pre .1 .1)
+add-m c = omega (arith, fifo-counts (c .before .before), c .before .before .before .before .pre .1 .1)
 
 cast-m : tie.Need-cast-m
-cast-m c = omega (arith, counted (c .before .before), c .before .before .before .before .pre .1 .1)
+cast-m c = omega (arith, fifo-counts (c .before .before), c .before .before .before .before .pre .1 .1)
 
 scsi-popped-requires : tie.Need-scsi-popped-requires
 scsi-popped-requires c κs =

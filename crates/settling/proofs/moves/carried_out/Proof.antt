@@ -10,26 +10,26 @@ use Rattle.settling.proofs.moves.carried_out.Statement.{statement}
 use Rattle.settling.proofs.moves.carried_out.Tie as tie
 
 -- the count that is read
-counted : (c : tie.After-wide) → c .wide .result ≡ length ((stateAt (now (c .before .before .args .m))) .transfer .scsi)
-counted c =
+fifo-counts : (c : tie.After-wide) → c .wide .result ≡ length ((stateAt (now (c .before .before .args .m))) .transfer .scsi)
+fifo-counts c =
     let a = c .before .before in
     c .wide .ensures ∙ scsi-held (now (a .args .m)) (a .pre .0)
 
 add-copied : tie.Need-add-copied
-add-copied c = omega (arith, counted (c .before), c .before .before .before .pre .1 .1)
+add-copied c = omega (arith, fifo-counts (c .before), c .before .before .before .pre .1 .1)
 
 copied-requires : tie.Need-copied-requires
 copied-requires c κs =
     let a = c .before .before .before in
     let f = a .pre .0 .range .transfer in
-    let q = counted (c .before) in
+    let q = fifo-counts (c .before) in
     (long (now (a .args .m)) (a .pre .0), (omega (arith, f .host, a .pre .1 .0), (omega (arith, a .pre .1 .1), λ l. absurd (omega arith))))
 
 add-m : tie.Need-add-m
-add-m c = omega (arith, counted (c .before .before), c .before .before .before .before .pre .1 .1)
+add-m c = omega (arith, fifo-counts (c .before .before), c .before .before .before .before .pre .1 .1)
 
 cast-m : tie.Need-cast-m
-cast-m c = omega (arith, counted (c .before .before), c .before .before .before .before .pre .1 .1)
+cast-m c = omega (arith, fifo-counts (c .before .before), c .before .before .before .before .pre .1 .1)
 
 host-popped-requires : tie.Need-host-popped-requires
 host-popped-requires c κs =
