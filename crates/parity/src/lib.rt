@@ -3,15 +3,11 @@ ghost use mathlib.Core.Path.{_≡_};
 ghost use Prim.Native.Nat.{_+_};
 ghost use Rattle.rules.specs.Numbers.{ones, one, even};
 
-// The number of ones of a byte, bit by bit.
+// The number of ones of a byte, by the processor's count.
 pub fn ones(v: u8) -> u8
     ensures { λ r. ⌜ r ≡ ones v ⌝ }
 {
-    let mut count: u8 = 0;
-    for k in 0u8..8 {
-        count += (v >> k) % 2;
-    }
-    count
+    u8::count_ones(v) as u8
 }
 
 // The parity that makes the ones odd.
