@@ -1,12 +1,13 @@
 //! Writes raw event records to standard output:
 //! `streams SEED [LENGTH]` a mixed stream by seed,
-//! `streams write|read|probe N` a benchmark stream of N events.
+//! `streams write|read|probe|lines|full-write|full-read N` a benchmark stream of N events.
 
 use reference::streams::{benchmark_record, stream, Benchmark, USUAL_LENGTH};
 use std::io::{self, BufWriter, ErrorKind, Write};
 use std::process::ExitCode;
 
-const USAGE: &str = "usage: streams SEED [LENGTH] | streams write|read|probe N";
+const USAGE: &str =
+    "usage: streams SEED [LENGTH] | streams write|read|probe|lines|full-write|full-read N";
 
 enum Request {
     Mixed { seed: u64, length: usize },
@@ -33,6 +34,9 @@ fn parse(arguments: &[String]) -> Option<Request> {
         "write" => Benchmark::Write,
         "read" => Benchmark::Read,
         "probe" => Benchmark::Probe,
+        "lines" => Benchmark::Lines,
+        "full-write" => Benchmark::FullWrite,
+        "full-read" => Benchmark::FullRead,
         _ => return parse_mixed(arguments),
     };
     match arguments {

@@ -12,7 +12,18 @@ pub enum Benchmark {
     Read,
     /// Reads and writes of every register.
     Probe,
+    /// Line events alone: an inbound transfer in Automatic mode with parity checked, one byte in eight bad.
+    Lines,
+    /// The write run with the host FIFO near 128 bytes.
+    FullWrite,
+    /// The read run with the host FIFO near 128 bytes.
+    FullRead,
 }
+
+/// Where the full write run starts to send: both FIFOs are full then, 128 bytes and 8.
+const WRITE_FILLED: u64 = 5 + 68;
+/// Where the full read run starts to be read: 128 bytes have come, a REQ up and down for each.
+const READ_FILLED: u64 = 5 + 256;
 
 /// The record at a place of a benchmark stream.
 pub fn benchmark_record(benchmark: Benchmark, place: u64) -> u32 {
@@ -20,6 +31,9 @@ pub fn benchmark_record(benchmark: Benchmark, place: u64) -> u32 {
         Benchmark::Write => write_record(place),
         Benchmark::Read => read_record(place),
         Benchmark::Probe => probe_record(place),
+        Benchmark::Lines => line_record(place),
+        Benchmark::FullWrite => full_write_record(place),
+        Benchmark::FullRead => full_read_record(place),
     }
 }
 
@@ -46,14 +60,16 @@ fn read_record(place: u64) -> u32 {
         3 => records::write(SCSISIG, IO),
         4 => records::write(SXFRCTL0, SCSIEN | DMAEN | CHEN),
         _ => match place % 5 {
-            0 | 2 => {
-                let data = data_lines(mix(place) as u8, true);
-                records::lines(data | u32::from(IO | BSY | REQ))
-            }
+            0 | 2 => byte_offered(place),
             1 | 3 => records::lines(u32::from(IO | BSY)),
             _ => records::WORD_READ,
         },
     }
+}
+
+fn byte_offered(place: u64) -> u32 {
+    let data = data_lines(mix(place) as u8, true);
+    records::lines(data | u32::from(IO | BSY | REQ))
 }
 
 fn probe_record(place: u64) -> u32 {
@@ -63,5 +79,55 @@ fn probe_record(place: u64) -> u32 {
         records::read(offset)
     } else {
         records::write(offset, bits as u8)
+    }
+}
+
+fn line_record(place: u64) -> u32 {
+    match place {
+        0 => records::POWER_RESET,
+        1 => records::write(SXFRCTL1, ENSPCHK),
+        2 => records::write(SCSISIG, IO),
+        3 => records::write(SXFRCTL0, SPIOEN | CHEN),
+        _ => {
+            let bits = mix(place / 4);
+            let data = data_lines(bits as u8, bits >> 8 & 7 != 0);
+            records::lines(match place % 4 {
+                0 => data | u32::from(IO | BSY | REQ),
+                1 => data | u32::from(IO | BSY | REQ | ACK),
+                2 => u32::from(IO | BSY | ACK),
+                _ => u32::from(IO | BSY),
+            })
+        }
+    }
+}
+
+fn full_write_record(place: u64) -> u32 {
+    if place < 5 {
+        return write_record(place);
+    }
+    if place < WRITE_FILLED {
+        return records::word_write(mix(place) as u16);
+    }
+    match (place - WRITE_FILLED) % 5 {
+        0 | 2 => records::lines(u32::from(BSY | REQ)),
+        1 | 3 => records::lines(u32::from(BSY)),
+        _ => records::word_write(mix(place) as u16),
+    }
+}
+
+fn full_read_record(place: u64) -> u32 {
+    if place < 5 {
+        return read_record(place);
+    }
+    if place < READ_FILLED {
+        return match place % 2 {
+            1 => byte_offered(place),
+            _ => records::lines(u32::from(IO | BSY)),
+        };
+    }
+    match (place - READ_FILLED) % 5 {
+        0 => records::WORD_READ,
+        1 | 3 => byte_offered(place),
+        _ => records::lines(u32::from(IO | BSY)),
     }
 }
