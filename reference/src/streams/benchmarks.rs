@@ -12,7 +12,7 @@ pub enum Benchmark {
     Read,
     /// Reads and writes of every register.
     Probe,
-    /// Line events alone: an inbound transfer in Automatic mode with parity checked, one byte in eight bad.
+    /// Line events alone: an inbound transfer in Automatic mode, random data, parity checked.
     Lines,
     /// The write run with the host FIFO near 128 bytes.
     FullWrite,
@@ -89,8 +89,7 @@ fn line_record(place: u64) -> u32 {
         2 => records::write(SCSISIG, IO),
         3 => records::write(SXFRCTL0, SPIOEN | CHEN),
         _ => {
-            let bits = mix(place / 4);
-            let data = data_lines(bits as u8, bits >> 8 & 7 != 0);
+            let data = data_lines(mix(place / 4) as u8, true);
             records::lines(match place % 4 {
                 0 => data | u32::from(IO | BSY | REQ),
                 1 => data | u32::from(IO | BSY | REQ | ACK),
