@@ -1,6 +1,7 @@
 //! The chip's state, the lines it drives and sees, and the conditions that
 //! the rules name: connected, matched, path, synchronous, INSTAT, IRQ.
 
+use crate::counter::{self, Direction};
 use crate::event::Lines;
 use crate::fifo::Fifo;
 use crate::registers::*;
@@ -246,10 +247,10 @@ impl Chip {
     }
 
     /// An ACK of Normal or Automatic mode "adds one to the counter, modulo
-    /// 16,777,216, and clears REQINIT".
+    /// 16,777,216, and clears REQINIT"; an initiator shows no end passed.
     #[inline]
     pub fn count_ack(&mut self) {
-        self.counter = (self.counter + 1) & 0x00FF_FFFF;
+        (self.counter, _) = counter::step(Direction::Up, self.counter);
         self.status1 &= !REQINIT;
     }
 }

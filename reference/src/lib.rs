@@ -6,6 +6,7 @@
 pub mod access;
 pub mod answer;
 pub mod chip;
+pub mod counter;
 pub mod edges;
 pub mod event;
 pub mod fifo;

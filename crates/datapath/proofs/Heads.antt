@@ -1,17 +1,21 @@
 -- Stores in the head of an image: the counter's bytes, the ACK and the offset; and the SCSI FIFO's count.
-use Prim.Native.Nat.{ℕ, _+_, _*_, _<_, _≤_}
+use Prim.Native.Nat.{ℕ, _+_, _-_, _*_, _<_, _≤_}
 use mathlib.Core.Path.{_≡_, refl, ap, sym, _∙_}
-use mathlib.Core.Bool.{true}
+use mathlib.Core.Bool.{true, false}
 use mathlib.Core.List.{List, []}
+use borrow.Author.Tests.{ne-eqb}
 use native.Mathlib.Omega.{arith}
 use lib.ListN.{length, drop, set, getD, drop-of-length-le}
-use Rattle.rules.specs.Counter.{counterSize, counted, counterByte, counterWith}
+use Rattle.rules.specs.Counter.{counterSize, steppedTo, counterStep, counterByte, counterWith}
+use Rattle.rules.specs.declared.counts.CounterStep.{CounterStep}
+use Rattle.rules.specs.declared.counts.Direction.{Direction}
+use Rattle.rules.specs.declared.counts.Direction.the-variants.{Up, Down}
 use Rattle.rules.specs.State.{State}
 use Rattle.image.proofs.ReadBack.{counter-back}
 use Rattle.image.specs.Image.{imageOf}
 use Rattle.rules.specs.Changed.{withCounter, withOffset, withAck}
 use Rattle.image.specs.Layout.{ackPlace, counterHighPlace, counterLowPlace, counterMiddlePlace, offsetPlace, scsiCountPlace}
-use Rattle.datapath.specs.Fits.{FitsPlaces, counterWritten, counterCounted}
+use Rattle.datapath.specs.Fits.{FitsPlaces, counterWritten, counterStepped, counterPasses}
 
 -- the three bytes of a number stand for it
 stored : (s : State) (n : ℕ) → set (set (set (imageOf s) counterLowPlace (counterByte 0 n)) counterMiddlePlace (counterByte 1 n)) counterHighPlace (counterByte 2 n) ≡ imageOf (withCounter n s)
@@ -77,29 +81,27 @@ module _ (s : State) (v : ℕ) (h : v < 256) where
       let n : ℕ = s .transfer .counter in
       bytes-as s (counterWith 2 v n) (sym (high-0 v n h)) (sym (high-1 v n h)) (sym (high-2 v n h))
 
--- a low byte below 255 does not carry
-module _ (n : ℕ) (h : n < counterSize) (k : counterByte 0 n < 255) where
-  low-counts : counterByte 0 n + 1 ≡ counterByte 0 (counted n)
-  unfolding counted
-  low-counts = omega arith
-
-  middle-stays : counterByte 1 n ≡ counterByte 1 (counted n)
-  unfolding counted
-  middle-stays = omega arith
-
-  high-stays : counterByte 2 n ≡ counterByte 2 (counted n)
-  unfolding counted
-  high-stays = omega arith
-
 low-read : (s : State) → getD (imageOf s) counterLowPlace 0 ≡ counterByte 0 (s .transfer .counter)
 unfolding imageOf
 low-read s = refl
 
-low-counted : (s : State) → s .transfer .counter < counterSize → counterByte 0 (s .transfer .counter) < 255 → set (imageOf s) counterLowPlace (counterByte 0 (s .transfer .counter) + 1) ≡ imageOf (counterCounted s)
+-- a step that changes the low byte alone, to b, and one that does not come to 0
+low-steps : (s : State) (d : Direction) (b : ℕ) → b < 256 → (counterStep d (s .transfer .counter)) .value + counterByte 0 (s .transfer .counter) ≡ s .transfer .counter + b → set (imageOf s) counterLowPlace b ≡ imageOf (counterStepped d s)
 unfolding imageOf
-low-counted s h k =
-    let n : ℕ = s .transfer .counter in
-    bytes-as s (counted n) (low-counts n h k) (middle-stays n h k) (high-stays n h k)
+low-steps s d b h k = bytes-as s ((counterStep d (s .transfer .counter)) .value) (omega (arith, k)) (omega (arith, k)) (omega (arith, k))
+
+low-passes : (d : Direction) (n b : ℕ) → 0 < b → (counterStep d n) .value + counterByte 0 n ≡ n + b → (counterStep d n) .passed ≡ false
+unfolding counterStep
+low-passes d n b h k = ne-eqb (steppedTo d n) 0 (λ e. omega (arith, e, k))
+
+-- a low byte that does not carry, up and down
+one-up : (n : ℕ) → n < counterSize → counterByte 0 n < 255 → (counterStep Up n) .value + counterByte 0 n ≡ n + (counterByte 0 n + 1)
+unfolding counterStep steppedTo
+one-up n h k = omega arith
+
+one-down : (n : ℕ) → n < counterSize → 1 < counterByte 0 n → (counterStep Down n) .value + counterByte 0 n ≡ n + (counterByte 0 n - 1)
+unfolding counterStep steppedTo
+one-down n h k = omega arith
 
 ack-stored : (s : State) → set (imageOf s) ackPlace 1 ≡ imageOf (withAck true s)
 unfolding imageOf
@@ -137,16 +139,28 @@ module _ {m : List ℕ} (s : State) (e : m ≡ imageOf s) where
     number : getD m counterLowPlace 0 + 256 * getD m counterMiddlePlace 0 + 65536 * getD m counterHighPlace 0 ≡ s .transfer .counter
     number = ap (λ (y : List ℕ). getD y counterLowPlace 0 + 256 * getD y counterMiddlePlace 0 + 65536 * getD y counterHighPlace 0) e ∙ counter-bytes s ∙ counter-back (s .transfer .counter) (p .counter)
 
-    pub more : {k n a b c : ℕ} → k ≡ getD m counterLowPlace 0 + 256 * getD m counterMiddlePlace 0 + 65536 * getD m counterHighPlace 0 → n ≡ counted k → a ≡ counterByte 0 n → b ≡ counterByte 1 n → c ≡ counterByte 2 n → set (set (set m counterLowPlace a) counterMiddlePlace b) counterHighPlace c ≡ imageOf (counterCounted s)
-    more {k} {n} {a} {b} {c} f g i j l =
-        let q : n ≡ counted (s .transfer .counter) = g ∙ ap counted (f ∙ number) in
-        ap (λ (y : List ℕ). set (set (set y counterLowPlace a) counterMiddlePlace b) counterHighPlace c) e ∙ bytes-as s n i j l ∙ ap (λ (x : ℕ). imageOf (withCounter x s)) q
+    low-byte : getD m counterLowPlace 0 ≡ counterByte 0 (s .transfer .counter)
+    low-byte = ap (λ (y : List ℕ). getD y counterLowPlace 0) e ∙ low-read s
 
-    pub low-more : getD m counterLowPlace 0 < 255 → set m counterLowPlace (getD m counterLowPlace 0 + 1) ≡ imageOf (counterCounted s)
-    low-more h =
-        let g : getD m counterLowPlace 0 ≡ counterByte 0 (s .transfer .counter) = ap (λ (y : List ℕ). getD y counterLowPlace 0) e ∙ low-read s in
-        ap (λ (x : ℕ). set m counterLowPlace (x + 1)) g ∙ ap (λ (y : List ℕ). set y counterLowPlace (counterByte 0 (s .transfer .counter) + 1)) e
-        ∙ low-counted s (p .counter) (omega arith)
+    pub all-step : (d : Direction) {k a b c : ℕ} {r : CounterStep} → k ≡ getD m counterLowPlace 0 + 256 * getD m counterMiddlePlace 0 + 65536 * getD m counterHighPlace 0 → r ≡ counterStep d k → a ≡ counterByte 0 (r .value) → b ≡ counterByte 1 (r .value) → c ≡ counterByte 2 (r .value) → set (set (set m counterLowPlace a) counterMiddlePlace b) counterHighPlace c ≡ imageOf (counterStepped d s)
+    all-step d {k} {a} {b} {c} {r} f g i j l =
+        let q : r ≡ counterStep d (s .transfer .counter) = g ∙ ap (counterStep d) (f ∙ number) in
+        ap (λ (y : List ℕ). set (set (set y counterLowPlace a) counterMiddlePlace b) counterHighPlace c) e ∙ bytes-as s (r .value) i j l ∙ ap (λ (x : CounterStep). imageOf (withCounter (x .value) s)) q
+
+    pub all-passes : (d : Direction) {k : ℕ} {r : CounterStep} → k ≡ getD m counterLowPlace 0 + 256 * getD m counterMiddlePlace 0 + 65536 * getD m counterHighPlace 0 → r ≡ counterStep d k → r .passed ≡ counterPasses d s
+    all-passes d {k} {r} f g = ap (λ (x : CounterStep). x .passed) (g ∙ ap (counterStep d) (f ∙ number))
+
+    pub low-up : getD m counterLowPlace 0 < 255 → (false ≡ counterPasses Up s) × (set m counterLowPlace (getD m counterLowPlace 0 + 1) ≡ imageOf (counterStepped Up s))
+    low-up h =
+        let n : ℕ = s .transfer .counter in
+        let k = one-up n (p .counter) (omega (arith, low-byte)) in
+        (sym (low-passes Up n (counterByte 0 n + 1) (omega arith) k), ap (λ (x : ℕ). set m counterLowPlace (x + 1)) low-byte ∙ ap (λ (y : List ℕ). set y counterLowPlace (counterByte 0 n + 1)) e ∙ low-steps s Up (counterByte 0 n + 1) (omega (arith, low-byte)) k)
+
+    pub low-down : 1 < getD m counterLowPlace 0 → (false ≡ counterPasses Down s) × (set m counterLowPlace (getD m counterLowPlace 0 - 1) ≡ imageOf (counterStepped Down s))
+    low-down h =
+        let n : ℕ = s .transfer .counter in
+        let k = one-down n (p .counter) (omega (arith, low-byte)) in
+        (sym (low-passes Down n (counterByte 0 n - 1) (omega (arith, low-byte)) k), ap (λ (x : ℕ). set m counterLowPlace (x - 1)) low-byte ∙ ap (λ (y : List ℕ). set y counterLowPlace (counterByte 0 n - 1)) e ∙ low-steps s Down (counterByte 0 n - 1) (omega arith) k)
 
     pub scsi-counted : getD m scsiCountPlace 0 ≡ length (s .transfer .scsi)
     scsi-counted = ap (λ (y : List ℕ). getD y scsiCountPlace 0) e ∙ scsi-count s

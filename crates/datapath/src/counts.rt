@@ -4,12 +4,16 @@ ghost use mathlib.Core.Bool.{true};
 ghost use Prim.Native.Nat.{_+_, _*_};
 ghost use Rattle.image.specs.Image.{imageOf, stateAt, IsImage};
 ghost use Rattle.rules.specs.Changed.{withCounter, withAck};
-ghost use Rattle.datapath.specs.Fits.{counterWritten, counterCounted};
+ghost use Rattle.datapath.specs.Fits.{counterWritten, counterStepped, counterPasses};
+ghost use Rattle.rules.specs.declared.counts.Direction.the-variants.{Up, Down};
+use counter::counter_byte;
+use counter::counter_step;
 use image::layout::ACK;
 use image::layout::COUNTER_HIGH;
 use image::layout::COUNTER_LOW;
 use image::layout::COUNTER_MIDDLE;
 use image::layout::Image;
+use rules::counts::Direction;
 
 // "CLRSTCNT zeroes the counter"
 pub fn counter_zeroed(m: &mut Image)
@@ -49,38 +53,66 @@ fn joined(low: u8, middle: u8, high: u8) -> u32
     (low as u32) + 256 * (middle as u32) + 65536 * (high as u32)
 }
 
-// One added to all three bytes.
-fn carried(m: &mut Image)
+// All three bytes step.
+fn carried(m: &mut Image, direction: Direction) -> bool
     requires { ⌜ IsImage (now m) ⌝ }
-    ensures { λ _. ⌜ now (m .exit) ≡ imageOf (counterCounted (stateAt (now (m .entry)))) ⌝ }
+    ensures { λ passed. ⌜ passed ≡ counterPasses direction (stateAt (now (m .entry))) ⌝ }
+    ensures { λ _. ⌜ now (m .exit) ≡ imageOf (counterStepped direction (stateAt (now (m .entry)))) ⌝ }
 {
-    let n = counter::counted(joined(m[COUNTER_LOW], m[COUNTER_MIDDLE], m[COUNTER_HIGH]));
-    let low = counter::counter_byte(0, n);
-    let middle = counter::counter_byte(1, n);
-    let high = counter::counter_byte(2, n);
+    let counted = counter_step(direction, joined(m[COUNTER_LOW], m[COUNTER_MIDDLE], m[COUNTER_HIGH]));
+    let low = counter_byte(0, counted.value);
+    let middle = counter_byte(1, counted.value);
+    let high = counter_byte(2, counted.value);
     m[COUNTER_LOW] = low;
     m[COUNTER_MIDDLE] = middle;
     m[COUNTER_HIGH] = high;
+    counted.passed
 }
 
-// "Each ACK adds one to the counter, modulo 16,777,216"; most often the low byte alone changes.
-pub fn counter_counted(m: &mut Image)
+// Most often the low byte alone changes, and the end is not passed.
+fn stepped_up(m: &mut Image) -> bool
     requires { ⌜ IsImage (now m) ⌝ }
-    ensures { λ _. ⌜ now (m .exit) ≡ imageOf (counterCounted (stateAt (now (m .entry)))) ⌝ }
+    ensures { λ passed. ⌜ passed ≡ counterPasses Up (stateAt (now (m .entry))) ⌝ }
+    ensures { λ _. ⌜ now (m .exit) ≡ imageOf (counterStepped Up (stateAt (now (m .entry)))) ⌝ }
 {
     let low = m[COUNTER_LOW];
     if low < 255 {
         m[COUNTER_LOW] = low + 1;
-    } else {
-        carried(m);
+        return false;
+    }
+    carried(m, Direction::Up)
+}
+
+fn stepped_down(m: &mut Image) -> bool
+    requires { ⌜ IsImage (now m) ⌝ }
+    ensures { λ passed. ⌜ passed ≡ counterPasses Down (stateAt (now (m .entry))) ⌝ }
+    ensures { λ _. ⌜ now (m .exit) ≡ imageOf (counterStepped Down (stateAt (now (m .entry)))) ⌝ }
+{
+    let low = m[COUNTER_LOW];
+    if low > 1 {
+        m[COUNTER_LOW] = low - 1;
+        return false;
+    }
+    carried(m, Direction::Down)
+}
+
+// The counter steps; the answer says whether it passed its end.
+pub fn counter_stepped(m: &mut Image, direction: Direction) -> bool
+    requires { ⌜ IsImage (now m) ⌝ }
+    ensures { λ passed. ⌜ passed ≡ counterPasses direction (stateAt (now (m .entry))) ⌝ }
+    ensures { λ _. ⌜ now (m .exit) ≡ imageOf (counterStepped direction (stateAt (now (m .entry)))) ⌝ }
+{
+    match direction {
+        Direction::Up => stepped_up(m),
+        Direction::Down => stepped_down(m),
     }
 }
 
-// "turns automatic ACK on, adds one to the counter"
+// "turns automatic ACK on, adds one to the counter"; an initiator shows no end that is passed.
 pub fn acknowledged(m: &mut Image)
     requires { ⌜ IsImage (now m) ⌝ }
-    ensures { λ _. ⌜ now (m .exit) ≡ imageOf (withAck true (counterCounted (stateAt (now (m .entry))))) ⌝ }
+    ensures { λ _. ⌜ now (m .exit) ≡ imageOf (withAck true (counterStepped Up (stateAt (now (m .entry))))) ⌝ }
 {
-    counter_counted(m);
+    let _passed = counter_stepped(m, Direction::Up);
     m[ACK] = 1;
 }

@@ -8,10 +8,11 @@ use Rattle.rules.specs.Numbers.{bit}
 use Rattle.rules.specs.Map.{table, writtenAt, offsetOf}
 use Rattle.rules.specs.State.{State}
 use Rattle.rules.specs.Codes.{accessCode}
-use Rattle.rules.specs.Counter.{counted}
+use Rattle.rules.specs.Counter.{counterStep}
 use Rattle.rules.specs.Events.{writes, reads, valueOf, linesAfter, offered, asked, portWrite}
 use Rattle.rules.specs.StepA.{latchAccess, automaticAck, registersA, transferA, hostA, counterA, statusA, latchesA, stackA, identityA, afterA, clears, clearsLatch, clearsError, clrstcnt, clrch, rstfifo}
 use Rattle.rules.specs.declared.codes.Code.the-variants.{Done}
+use Rattle.rules.specs.declared.counts.Direction.the-variants.{Up}
 use Rattle.rules.specs.declared.map.Register.{Register}
 use Rattle.rules.specs.declared.records.Event.the-variants.{Write, WordRead}
 use Rattle.rules.specs.Changed.{withRegisters, withStatus}
@@ -41,7 +42,7 @@ hostCleared s v = withHost (cond (bit v 1) [] (s .transfer .host)) s
 -- an Automatic ACK "turns automatic ACK on, adds one to the counter"
 abbrev pub ackCounted : Bool → State → State
 ackCounted acked s =
-    withAck (acked || s .transfer .ack) (withCounter (cond acked (counted (s .transfer .counter)) (s .transfer .counter)) s)
+    withAck (acked || s .transfer .ack) (withCounter (cond acked ((counterStep Up (s .transfer .counter)) .value) (s .transfer .counter)) s)
 
 -- the state after a write at o; its unfolding is all that A looks at
 unfoldable pub Leaving : ℕ → (State → ℕ → State) → Type 0

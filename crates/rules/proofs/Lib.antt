@@ -9,5 +9,6 @@ pub mod Still
 pub mod Refusals
 pub mod Beliefs
 pub mod Effects
+pub mod Counting
 pub mod Witnesses
 pub mod Packing

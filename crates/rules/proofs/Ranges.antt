@@ -16,12 +16,14 @@ use Rattle.rules.specs.Seen.{atnSeen, bsySeen, selSeen, ioSeen, ackDrive
 use Rattle.rules.specs.Map.{readAt}
 use Rattle.rules.specs.Records.{linesOf, payloadLimit, offsetLimit, eventOf, wellFormed, fieldsOf, payloadOf, decode}
 use Rattle.rules.specs.Events.{writes, reads, valueOf, linesAfter, offered, asked, portWrite}
-use Rattle.rules.specs.Counter.{counterSize, counted, counterWith}
+use Rattle.rules.specs.Counter.{counterSize, steppedTo, counterStep, counterWith}
 use Rattle.rules.specs.Stack.{stackByte, stackPlace, pointerAfter, stackRead, stackWritten, pointed}
 use Rattle.rules.specs.Interrupts.{phasemis, instat, irq}
 use Rattle.rules.specs.Reads.{scsisigi, scsibus, sstat0, sstat1, sstat2, sstat3, sstat4, dmastat, idBytes, readOf, readMapped, valueRead}
 use Rattle.rules.specs.Codes.{noRoom, accessCode, refusedValue, isDone}
 use Rattle.rules.specs.StepA.{clrstcnt, clrch, rstfifo, automaticAck, registersA, hostA, counterA, transferA, stackA, identityA, afterA}
+use Rattle.rules.specs.declared.counts.Direction.{Direction}
+use Rattle.rules.specs.declared.counts.Direction.the-variants.{Up, Down}
 use Rattle.rules.specs.StepB.{ackReleased, registersWith, offsetCleared, busReset, beyondLimit, reqWithin, synchronousReq, storedByte, reqRisen, quietAfter, busFreed, phaseChanged, afterB}
 use Rattle.rules.specs.StepC.{Settling, conditions, canMove, move, canHandshake, storedBy, handshake, settle, turns, started, settledC}
 use Rattle.rules.specs.StepD.{finished, afterD}
@@ -198,9 +200,10 @@ host-bytes-a e host f h =
     (λ t. cond-case Bytes (portWrite e) _ _ (λ w. bytes-append host (offered e) h (offered-fits e f)) (λ w. bytes-drop (asked e) host h))
 
 -- one ACK more is in range, and so is a counter with one of its bytes written
-pub counted-fits : (n : ℕ) → counted n < counterSize
-unfolding counted
-counted-fits n = omega arith
+pub counter-fits : (d : Direction) (n : ℕ) → (counterStep d n) .value < counterSize
+unfolding counterStep steppedTo
+counter-fits Up n = omega arith
+counter-fits Down n = omega arith
 
 counter-a : (acked : Bool) (e : Event) (n : ℕ) → EventFits e → n < counterSize → counterA acked e n < counterSize
 unfolding counterA
@@ -209,12 +212,12 @@ counter-a acked e n f h = go (clrstcnt e) (writes e STCNT0) (writes e STCNT1) (w
     v : valueOf e < 256
     v = value-of-fits e f
 
-    go : (z a b c k : Bool) → cond z 0 (cond a (counterWith 0 (valueOf e) n) (cond b (counterWith 1 (valueOf e) n) (cond c (counterWith 2 (valueOf e) n) (cond k (counted n) n)))) < counterSize
+    go : (z a b c k : Bool) → cond z 0 (cond a (counterWith 0 (valueOf e) n) (cond b (counterWith 1 (valueOf e) n) (cond c (counterWith 2 (valueOf e) n) (cond k ((counterStep Up n) .value) n)))) < counterSize
     go true a b c k = omega arith
     go false true b c k = omega (arith, v)
     go false false true c k = omega (arith, v)
     go false false false true k = omega (arith, v)
-    go false false false false true = counted-fits n
+    go false false false false true = counter-fits Up n
     go false false false false false = h
 
 transfer-a : (acked : Bool) (t : Transfer) (e : Event) → EventFits e → length (t .host) + length (offered e) ≤ 128 → TransferFits t → TransferFits (transferA acked t e)
@@ -460,7 +463,7 @@ module _ (c : Conditions) (s : Settling) where
       record {
         host = i .host;
         scsi = handshake-full c s h (i .scsi);
-        counter = counted-fits (s .transfer .counter);
+        counter = counter-fits Up (s .transfer .counter);
         offset = cond-case (λ n. n ≤ 8) (c .synchronous) _ _ (λ y. omega (arith, i .offset)) (λ y. i .offset);
       }
 

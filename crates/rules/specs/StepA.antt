@@ -8,7 +8,7 @@ use Rattle.rules.specs.Registers.{scsiseqOf, sxfrctl0Of, sxfrctl1Of, scs
 use Rattle.rules.specs.State.{State, Transfer}
 use Rattle.rules.specs.Seen.{ioSeen, reqSeen, automatic, matched}
 use Rattle.rules.specs.Events.{writes, reads, valueOf, linesAfter, offered, asked, portWrite}
-use Rattle.rules.specs.Counter.{counted, counterWith}
+use Rattle.rules.specs.Counter.{counterStep, counterWith}
 use Rattle.rules.specs.Stack.{stackRead, stackWritten, pointed}
 use Rattle.rules.specs.declared.registers.Scsisig.{Scsisig}
 use Rattle.rules.specs.declared.registers.Registers.{Registers}
@@ -16,6 +16,7 @@ use Rattle.rules.specs.declared.chip.Status.{Status}
 use Rattle.rules.specs.declared.chip.Latches.{Latches}
 use Rattle.rules.specs.declared.chip.Stack.{Stack}
 use Rattle.rules.specs.declared.map.Register.the-variants.{SCSISEQ, SXFRCTL0, SXFRCTL1, SCSISIGO, SCSIRATE, SCSIID, SCSIDAT, STCNT0, STCNT1, STCNT2, CLRSINT0, CLRSINT1, CLRSERR, SIMODE0, SIMODE1, DMACNTRL0, DMACNTRL1, BRSTCNTRL, STACK, ID}
+use Rattle.rules.specs.declared.counts.Direction.the-variants.{Up}
 use Rattle.rules.specs.declared.records.Event.{Event}
 
 -- "A write to 34Ch clears the named status bits and latches; bit 6 clears ATN."
@@ -96,7 +97,7 @@ counterA acked e n =
     cond (clrstcnt e) 0
     (cond (writes e STCNT0) (counterWith 0 (valueOf e) n)
     (cond (writes e STCNT1) (counterWith 1 (valueOf e) n)
-    (cond (writes e STCNT2) (counterWith 2 (valueOf e) n) (cond acked (counted n) n))))
+    (cond (writes e STCNT2) (counterWith 2 (valueOf e) n) (cond acked ((counterStep Up n) .value) n))))
 
 unfoldable pub transferA : Bool → Transfer → Event → Transfer
 transferA acked t e =

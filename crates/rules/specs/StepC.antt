@@ -7,9 +7,10 @@ use lib.ListN.{length, take, drop, getD}
 use Rattle.rules.specs.State.{State, Transfer}
 use Rattle.rules.specs.Changed.{transferWithHost, transferWithScsi, transferWithCounter, transferWithOffset, transferWithAck, transferWithLast}
 use Rattle.rules.specs.Seen.{reqSeen, matched, path, synchronous, dataSeen}
-use Rattle.rules.specs.Counter.{counted}
+use Rattle.rules.specs.Counter.{counterStep}
 use Rattle.rules.specs.StepB.{afterB}
 use Rattle.rules.specs.declared.chip.Conditions.{Conditions}
+use Rattle.rules.specs.declared.counts.Direction.the-variants.{Up}
 use Rattle.rules.specs.declared.records.Event.{Event}
 
 -- what settling looks at and does not change; "Handshake, if SCSIEN, path, matched."
@@ -70,7 +71,7 @@ handshake c s =
     record {
       transfer =
           transferWithScsi (cond (c .outbound) (drop 1 (t .scsi)) (t .scsi ++ storedBy c))
-          (transferWithCounter (counted (t .counter))
+          (transferWithCounter ((counterStep Up (t .counter)) .value)
           (transferWithOffset (cond (c .synchronous) (t .offset - 1) (t .offset))
           (transferWithAck (cond (c .synchronous) (t .ack) true)
           (transferWithLast (cond (c .outbound) (getD (t .scsi) 0 0) (t .last)) t))));

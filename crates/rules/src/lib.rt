@@ -4,6 +4,7 @@ ghost use Rattle.rules.specs.Codes.{numberOf};
 
 pub mod chip;
 pub mod codes;
+pub mod counts;
 pub mod map;
 pub mod records;
 pub mod registers;

@@ -9,7 +9,8 @@ use lib.ListN.{length, replicate, length-replicate}
 use Rattle.rules.specs.Registers.{scsiseqOf, sxfrctl0Of, sxfrctl1Of, scsisigOf, scsirateOf, scsiidOf, simode0Of, simode1Of, dmacntrl0Of, dmacntrl1Of}
 use Rattle.rules.specs.State.{State, Transfer, powerReset}
 use Rattle.rules.specs.Records.{linesOf, decode}
-use Rattle.rules.specs.Counter.{counted}
+use Rattle.rules.specs.Counter.{counterStep}
+use Rattle.rules.specs.declared.counts.Direction.the-variants.{Up}
 use Rattle.rules.specs.Examples.{bytesOf}
 use Rattle.rules.specs.Answers.{Stepped}
 use Rattle.rules.specs.Step.{step, after}
@@ -96,7 +97,7 @@ writes-byte : (n last : ℕ) (a : Status) (b : Latches) (c : Stack) (d e : ℕ) 
 unfolding follows
 writes-byte n last a b c d e = record { stage = record { lines = refl; registers = refl; transfer = refl }; sends = refl }
 
-asks-byte : (n last : ℕ) (a : Status) (b : Latches) (c : Stack) (d e : ℕ) → Goes (linesOf 6) (handed (counted n)) (0x55 ∷ []) (step (made (linesOf 4) (holding n last) a b c d e) asking)
+asks-byte : (n last : ℕ) (a : Status) (b : Latches) (c : Stack) (d e : ℕ) → Goes (linesOf 6) (handed ((counterStep Up n) .value)) (0x55 ∷ []) (step (made (linesOf 4) (holding n last) a b c d e) asking)
 unfolding follows
 asks-byte n last a b c d e = record { stage = record { lines = refl; registers = refl; transfer = refl }; sends = refl }
 
@@ -119,13 +120,13 @@ said : Said
 unfolding follows
 said = record { write = refl; ask = refl; release = refl }
 
-one-cycle : (n last : ℕ) (s : State) → Stage (linesOf 4) (waiting n last) s → Passes (counted n) 0x55 s cycle (0x55 ∷ [])
+one-cycle : (n last : ℕ) (s : State) → Stage (linesOf 4) (waiting n last) s → Passes ((counterStep Up n) .value) 0x55 s cycle (0x55 ∷ [])
 one-cycle n last s p =
     let s1 : State = (step s writing) .state in
     let s2 : State = (step s1 asking) .state in
     let x = at-stage (λ t. Goes (linesOf 4) (holding n last) [] (step t writing)) (linesOf 4) (waiting n last) (writes-byte n last) s p in
-    let y = at-stage (λ t. Goes (linesOf 6) (handed (counted n)) (0x55 ∷ []) (step t asking)) (linesOf 4) (holding n last) (asks-byte n last) s1 (x .stage) in
-    let z = at-stage (λ t. Goes (linesOf 4) (waiting (counted n) 0x55) [] (step t releasing)) (linesOf 6) (handed (counted n)) (releases (counted n)) s2 (y .stage) in
+    let y = at-stage (λ t. Goes (linesOf 6) (handed ((counterStep Up n) .value)) (0x55 ∷ []) (step t asking)) (linesOf 4) (holding n last) (asks-byte n last) s1 (x .stage) in
+    let z = at-stage (λ t. Goes (linesOf 4) (waiting ((counterStep Up n) .value) 0x55) [] (step t releasing)) (linesOf 6) (handed ((counterStep Up n) .value)) (releases ((counterStep Up n) .value)) s2 (y .stage) in
     record {
       stage = z .stage;
       sends = rw (x .sends, y .sends, z .sends);
@@ -140,7 +141,7 @@ cycles (suc k) = cycle ++ cycles k
 -- the counter, and the byte last sent, after k cycles
 unfoldable counterAfter : ℕ → ℕ → ℕ
 counterAfter zero n = n
-counterAfter (suc k) n = counterAfter k (counted n)
+counterAfter (suc k) n = counterAfter k ((counterStep Up n) .value)
 
 unfoldable lastAfter : ℕ → ℕ → ℕ
 lastAfter zero last = last
@@ -151,7 +152,7 @@ unfolding cycles counterAfter lastAfter
 all-cycles zero n last s p = record { stage = p; sends = refl; comes = refl }
 all-cycles (suc k) n last s p =
     let x = one-cycle n last s p in
-    let y = all-cycles k (counted n) 0x55 (after s cycle) (x .stage) in
+    let y = all-cycles k ((counterStep Up n) .value) 0x55 (after s cycle) (x .stage) in
     record {
       stage = y .stage;
       sends =

@@ -8,7 +8,7 @@ use lib.Dec.{ltb}
 use lib.ListN.{length, take, drop, replicate, length-append, length-take, length-drop, take-append-drop, replicate-append-replicate}
 use borrow.Author.Tests.{ltb-true}
 use Rattle.rules.specs.State.{Transfer}
-use Rattle.rules.specs.Counter.{counted}
+use Rattle.rules.specs.Counter.{steppedTo, counterStep}
 use Rattle.rules.specs.StepC.{Settling, canMove, move, canAsynchronous, canSynchronous, canHandshake, handshake, turn, settle}
 use Rattle.rules.specs.declared.chip.Conditions.{Conditions}
 use Rattle.rules.proofs.Logic.{never}
@@ -50,7 +50,7 @@ module _ (c : Conditions) (h : c .outbound ≡ true) (bytes : List ℕ) (k : ℕ
       }
 
   outbound-handshake : (s : Settling) → canHandshake c (s .transfer) ≡ true → Outbound bytes k s → Outbound bytes k (handshake c s)
-  unfolding handshake counted
+  unfolding handshake counterStep steppedTo
   outbound-handshake s e o =
       let p = handshake-has-byte c h s e in
       let n = o .count in
@@ -123,7 +123,7 @@ module _ (c : Conditions) (k : ℕ) where
   counted-move s o = o
 
   counted-handshake : (s : Settling) → Counted k s → Counted k (handshake c s)
-  unfolding handshake counted
+  unfolding handshake counterStep steppedTo
   counted-handshake s o = omega arith
 
   pub counted-settles : (n : ℕ) (s : Settling) → Counted k s → Counted k (settle c n s)

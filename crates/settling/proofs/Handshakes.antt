@@ -25,7 +25,8 @@ use Rattle.datapath.proofs.Places.{Sized, flat, image-laid, scsi-from}
 use Rattle.settling.proofs.ReadBackOfTransfer.{sized, offset-at}
 use Rattle.image.specs.Layout.{lastPlace, offsetPlace, scsiBytesPlace, scsiCountPlace}
 use Rattle.settling.proofs.Carries.{scsi-held}
-use Rattle.datapath.specs.Fits.{counterCounted}
+use Rattle.datapath.specs.Fits.{counterStepped}
+use Rattle.rules.specs.declared.counts.Direction.the-variants.{Up}
 use Rattle.datapath.proofs.Heads.{offset-stored}
 
 -- another SCSI FIFO and byte last sent in their places
@@ -72,14 +73,14 @@ module _ (s : State) (m : List ℕ) (b n : ℕ) (p : m ≡ imageOf s) (r : InRan
 
 -- the ACK counted in m₁
 module _ (s : State) (m₁ : List ℕ) where
-  pub ack-pulse : (o : ℕ) → m₁ ≡ imageOf (counterCounted s) → o ≡ getD m₁ offsetPlace 0 - 1 → set m₁ offsetPlace o ≡ imageOf (withTransfer (acknowledged true (s .transfer)) s)
+  pub ack-pulse : (o : ℕ) → m₁ ≡ imageOf (counterStepped Up s) → o ≡ getD m₁ offsetPlace 0 - 1 → set m₁ offsetPlace o ≡ imageOf (withTransfer (acknowledged true (s .transfer)) s)
   unfolding acknowledged
   ack-pulse o e f =
-      let x : State = counterCounted s in
+      let x : State = counterStepped Up s in
       let g : o ≡ s .transfer .offset - 1 = f ∙ ap (λ (l : List ℕ). getD l offsetPlace 0 - 1) e ∙ ap (λ (k : ℕ). k - 1) (offset-at x) in
       ap (λ (l : List ℕ). set l offsetPlace o) e ∙ ap (set (imageOf x) offsetPlace) g ∙ offset-stored x (s .transfer .offset - 1)
 
-  pub ack-on : m₁ ≡ imageOf (withAck true (counterCounted s)) → m₁ ≡ imageOf (withTransfer (acknowledged false (s .transfer)) s)
+  pub ack-on : m₁ ≡ imageOf (withAck true (counterStepped Up s)) → m₁ ≡ imageOf (withTransfer (acknowledged false (s .transfer)) s)
   unfolding acknowledged
   ack-on e = e
 

@@ -7,7 +7,9 @@ use native.Mathlib.Omega.{arith}
 use native.Mathlib.Nat.{zero-add}
 use lib.ListN.{length, length-append, length-take, length-drop}
 use Rattle.rules.specs.State.{Transfer}
-use Rattle.rules.specs.Counter.{counterSize, counted}
+use Rattle.rules.specs.Counter.{counterSize}
+use Rattle.rules.specs.declared.counts.Direction.the-variants.{Up}
+use Rattle.rules.proofs.Ranges.{counter-fits}
 use Rattle.rules.specs.StepC.{Settling, canMove, move, canHandshake, handshake, turn, settle, turns}
 use Rattle.rules.specs.declared.chip.Conditions.{Conditions}
 use Rattle.rules.proofs.Rest.{Counts, Report, acksLeft, measure-small, move-inbound, synchronous-offset, asynchronous-ack, turn-moves, turn-handshakes, settle-enough, settle-rests, counts-start, counts-move, counts-handshake, acks-left-small, report}
@@ -37,8 +39,8 @@ module _ (c : Conditions) (s : Settling) where
   handshake-host h = h
 
   pub handshake-counter : (handshake c s) .transfer .counter < counterSize
-  unfolding handshake counted
-  handshake-counter = omega arith
+  unfolding handshake
+  handshake-counter = counter-fits Up (s .transfer .counter)
 
   pub handshake-offset : s .transfer .offset ≤ 8 → (handshake c s) .transfer .offset ≤ 8
   unfolding handshake

@@ -5,7 +5,8 @@ use mathlib.Core.List.{List, [], _++_}
 use lib.ListN.{length, take, drop, getD}
 use Rattle.rules.specs.State.{Transfer}
 use Rattle.rules.specs.Changed.{transferWithHost, transferWithScsi, transferWithCounter, transferWithOffset, transferWithAck, transferWithLast}
-use Rattle.rules.specs.Counter.{counted}
+use Rattle.rules.specs.Counter.{counterStep}
+use Rattle.rules.specs.declared.counts.Direction.the-variants.{Up}
 use Rattle.rules.specs.StepC.{Settling}
 use Rattle.rules.specs.declared.chip.Conditions.{Conditions}
 
@@ -40,5 +41,5 @@ passed outbound stored t =
 -- its ACK: on, or a pulse that lowers the offset
 unfoldable pub acknowledged : Bool → Transfer → Transfer
 acknowledged synchronous t =
-    transferWithCounter (counted (t .counter))
+    transferWithCounter ((counterStep Up (t .counter)) .value)
     (transferWithOffset (cond synchronous (t .offset - 1) (t .offset)) (transferWithAck (cond synchronous (t .ack) true) t))

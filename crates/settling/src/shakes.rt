@@ -11,7 +11,7 @@ ghost use Rattle.image.specs.Image.{IsImage, imageOf, stateAt};
 ghost use Rattle.settling.specs.Blocks.{passed, acknowledged};
 ghost use Rattle.settling.specs.Steps.{sentWith, bytePassed, shakenOf};
 use datapath::counts::acknowledged;
-use datapath::counts::counter_counted;
+use datapath::counts::counter_stepped;
 use datapath::scsi::scsi_pushed;
 use fifos::sent::Sent;
 use image::bits::automatic_ack;
@@ -21,6 +21,7 @@ use image::layout::OFFSET;
 use image::layout::SCSI_BYTES;
 use image::layout::SCSI_COUNT;
 use rules::chip::Conditions;
+use rules::counts::Direction;
 
 fn can_synchronous(m: &Image, c: Conditions) -> bool
     requires { ⌜ IsImage (now m) ⌝ }
@@ -105,7 +106,7 @@ fn ack_given(m: &mut Image, synchronous: bool)
     ensures { λ _. ⌜ now (m .exit) ≡ imageOf (withTransfer (acknowledged synchronous ((stateAt (now (m .entry))) .transfer)) (stateAt (now (m .entry)))) ⌝ }
 {
     if synchronous {
-        counter_counted(m);
+        let _passed = counter_stepped(m, Direction::Up);
         let offset = m[OFFSET];
         m[OFFSET] = less_one(offset);
     } else {

@@ -1,13 +1,17 @@
 use borrow.Author.Needs.{needs}
 use Rattle.datapath.proofs.Fronts.{placed-at}
-use Rattle.datapath.proofs.Heads.{more}
+use Rattle.datapath.proofs.Heads.{all-step, all-passes}
 use Rattle.datapath.proofs.counts.carried.Statement.{statement}
 use Rattle.datapath.proofs.counts.carried.Tie as tie
 
 returns : tie.Need-returns
 returns c =
-    let start = c .before .before .before .before .before .before .before .before in
-    more _ (start .pre .packed) (placed-at (start .args .m .now) (start .pre)) (c .before .before .before .before .joined .ensures) (c .before .before .before .counted .ensures) (c .before .before .counter-byte .ensures) (c .before .counter-byte2 .ensures) (c .counter-byte3 .ensures)
+    let stepped = c .before .before .before in
+    let start = stepped .before .before .before .before .before in
+    let fits = placed-at (start .args .m .now) (start .pre) in
+    let d = start .args .direction in
+    (all-passes _ (start .pre .packed) fits d (stepped .before .joined .ensures) (stepped .counter-step .ensures),
+    all-step _ (start .pre .packed) fits d (stepped .before .joined .ensures) (stepped .counter-step .ensures) (c .before .before .counter-byte .ensures) (c .before .counter-byte2 .ensures) (c .counter-byte3 .ensures))
 
 pub carried-spec : {M : Type 1} → statement M
 carried-spec =

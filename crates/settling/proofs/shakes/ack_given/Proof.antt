@@ -14,7 +14,7 @@ returns c =
     let k = c .before .before in
     let a = k .before .before .before in
     let s = stateAt (now (a .args .m)) in
-    ack-pulse s (k .counter-counted .last .0) (c .less-one .result) (k .counter-counted .ensures) (c .less-one .ensures)
+    ack-pulse s (k .counter-stepped .last .0) (c .less-one .result) (k .counter-stepped .ensures .1) (c .less-one .ensures)
     ∙ ap (λ (y : Bool). imageOf (withTransfer (acknowledged y (s .transfer)) s)) (sym (k .before .before .if1 .taken))
 
 returns-2 : tie.Need-returns-2
