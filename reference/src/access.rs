@@ -186,9 +186,15 @@ impl Chip {
 
     /// "A write to 34Ch clears the named status bits and latches; bit 6 clears
     /// ATN."
+    ///
+    /// R-2: "a clear with ENSPCHK set copies [the kept parity] to the status.
+    /// The latch is cleared all the same".
     fn clear_interrupts1(&mut self, value: u8) {
         self.status1 &= !value;
         self.latches1 &= !value;
+        if self.kept_parity_bad && self.sxfrctl1 & ENSPCHK != 0 {
+            self.status1 |= value & SCSIPERR;
+        }
         if value & CLRATNO != 0 {
             self.scsisig &= !ATN;
         }

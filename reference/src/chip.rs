@@ -36,6 +36,8 @@ pub struct Chip {
     /// Interrupt latches, in the places of their statuses.
     pub latches0: u8,
     pub latches1: u8,
+    /// Request R-2: the parity of the last inbound byte was bad.
+    pub kept_parity_bad: bool,
     /// SYNCERR and FWERR, in their places of 34Fh.
     pub errors: u8,
     pub simode0: u8,

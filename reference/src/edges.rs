@@ -52,12 +52,20 @@ impl Chip {
 
     /// "If connected, IO seen and ENSPCHK, and data with parity has an even
     /// number of ones: SCSIPERR, and with ENAUTOATNP 343h bit 4."
+    ///
+    /// R-2: "the parity at the last connected REQ rise with IO seen is kept",
+    /// and the latch sets at a new error while enabled, "even with the status
+    /// already 1".
     #[inline]
     fn check_parity(&mut self) {
-        let checked = self.connected() && self.sees(IO) && self.sxfrctl1 & ENSPCHK != 0;
+        if !self.connected() || !self.sees(IO) {
+            return;
+        }
         // With IO seen the chip drives neither data nor parity.
-        if checked && self.others.parity != odd_parity(self.others.data) {
-            self.raise1(SCSIPERR);
+        self.kept_parity_bad = self.others.parity != odd_parity(self.others.data);
+        if self.kept_parity_bad && self.sxfrctl1 & ENSPCHK != 0 {
+            self.status1 |= SCSIPERR;
+            self.latches1 |= self.simode1 & SCSIPERR;
             if self.scsiseq & ENAUTOATNP != 0 {
                 self.scsisig |= ATN;
             }

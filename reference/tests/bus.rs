@@ -292,15 +292,85 @@ fn scsiperr_goes_with_enspchk() {
     assert!(!bench.write(0x34C, 0x04).irq);
 }
 
-/// "Clearing SCSIPERR leaves it 0."
+/// R-2: "a clear with ENSPCHK set copies it to the status": it comes back
+/// until a good byte has come, and without its latch.
 #[test]
-fn scsiperr_cleared_stays_0() {
+fn scsiperr_cleared_shows_the_kept_parity() {
     let mut bench = Bench::new();
     bench.write(0x342, 0x20);
+    bench.write(0x351, 0x04);
+    bench.write(0x352, 0x04);
     bench.lines(BSY | IO);
-    bench.data_lines(0x00, 0, BSY | IO | REQ);
+    assert!(bench.data_lines(0x00, 0, BSY | IO | REQ).irq);
+    for _ in 0..2 {
+        assert!(!bench.write(0x34C, 0x04).irq);
+        assert_eq!(bench.read(0x34C) & 0x04, 0x04);
+    }
+    bench.lines(BSY | IO);
+    bench.data_lines(0x01, 0, BSY | IO | REQ);
+    assert_eq!(bench.read(0x34C) & 0x04, 0x04);
     bench.write(0x34C, 0x04);
     assert_eq!(bench.read(0x34C) & 0x04, 0x00);
-    bench.ticks(5);
-    assert_eq!(bench.read(0x34C) & 0x04, 0x00);
+}
+
+/// R-2: the latch sets "at a new error while enabled, even with the status
+/// already 1, or when its enable rises with the status 1".
+#[test]
+fn scsiperr_latches_again() {
+    let mut bench = Bench::new();
+    bench.write(0x342, 0x20);
+    bench.write(0x351, 0x04);
+    bench.write(0x352, 0x04);
+    bench.lines(BSY | IO);
+    bench.data_lines(0x00, 0, BSY | IO | REQ);
+    assert!(!bench.write(0x34C, 0x04).irq);
+    bench.lines(BSY | IO);
+    assert!(bench.data_lines(0x03, 0, BSY | IO | REQ).irq);
+    assert!(!bench.write(0x34C, 0x04).irq);
+    bench.write(0x351, 0x00);
+    assert!(bench.write(0x351, 0x04).irq);
+}
+
+/// R-2: kept whether ENSPCHK is set or not, only while connected with IO seen;
+/// no reset changes it but power reset.
+#[test]
+fn parity_is_kept() {
+    let status_after = |seen: &dyn Fn(&mut Bench)| {
+        let mut bench = Bench::new();
+        seen(&mut bench);
+        bench.write(0x342, 0x20);
+        bench.write(0x34C, 0x04);
+        bench.read(0x34C) & 0x04
+    };
+    assert_eq!(status_after(&|_| ()), 0x00);
+    let bad = |bench: &mut Bench| {
+        bench.lines(BSY | IO);
+        bench.data_lines(0x00, 0, BSY | IO | REQ);
+    };
+    assert_eq!(status_after(&bad), 0x04);
+    assert_eq!(
+        status_after(&|bench| {
+            bad(bench);
+            bench.lines(RST);
+            bench.lines(0);
+            bench.ticks(8);
+        }),
+        0x04
+    );
+    for control in [BSY, IO, BSY | SEL | IO] {
+        assert_eq!(
+            status_after(&|bench| {
+                bench.lines(control);
+                bench.data_lines(0x00, 0, control | REQ);
+            }),
+            0x00
+        );
+    }
+    assert_eq!(
+        status_after(&|bench| {
+            bad(bench);
+            bench.send(0);
+        }),
+        0x00
+    );
 }

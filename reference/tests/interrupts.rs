@@ -41,7 +41,9 @@ fn each_status_of_34c_sets_its_latch() {
         assert!(instat(&mut bench));
         bench.write(0x34C, bit);
         assert!(!instat(&mut bench));
-        assert_eq!(bench.read(0x34C) & bit as u16, 0);
+        // SCSIPERR shows the kept parity instead, here a bad one.
+        let left = if bit == 0x04 { 0x04 } else { 0 };
+        assert_eq!(bench.read(0x34C) & bit as u16, left);
     }
 }
 

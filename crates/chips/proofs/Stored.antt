@@ -52,7 +52,7 @@ abbrev pub bytesOf : Chip → List ℕ
 bytesOf c =
     registersBytes (c .registers)
     ++ flagsBytes (c .status) (c .latches) (c .lines)
-    ++ numbersBytes (c .transfer .offset) (c .transfer .ack) (c .transfer .last) (c .quiet) (c .identity) (c .stack .pointer)
+    ++ numbersBytes (c .transfer .offset) (c .transfer .ack) (c .transfer .last) (c .quiet) (c .identity) (c .stack .pointer) (c .keptbad)
     ++ countsBytes (c .transfer .scsi .count) (c .transfer .host .count) (c .transfer .counter)
     ++ c .transfer .scsi .bytes
     ++ c .stack .bytes
@@ -73,18 +73,18 @@ module _ (c : Chip) (t : Tidy c) where
   counts-fit = (omega (arith, tidy-scsi c t, t .range .transfer .scsi), omega (arith, tidy-host c t, t .range .transfer .host))
 
   -- the array after each of the seven calls
-  pub all-stored : (m : List ℕ) {m1 m2 m3 m4 m5 m6 m7 : List ℕ} → m1 ≡ sets m 0 (registersBytes (c .registers)) → m2 ≡ sets m1 statusPlace (flagsBytes (c .status) (c .latches) (c .lines)) → m3 ≡ sets m2 offsetPlace (numbersBytes (c .transfer .offset) (c .transfer .ack) (c .transfer .last) (c .quiet) (c .identity) (c .stack .pointer)) → m4 ≡ sets m3 scsiCountPlace (countsBytes (c .transfer .scsi .count) (c .transfer .host .count) (c .transfer .counter)) → Placed m4 scsiBytesPlace (c .transfer .scsi .bytes) 8 m5 → Placed m5 stackBytesPlace (c .stack .bytes) 32 m6 → Placed m6 hostBytesPlace (c .transfer .host .bytes) 128 m7 → m7 ≡ imageOf (view c)
+  pub all-stored : (m : List ℕ) {m1 m2 m3 m4 m5 m6 m7 : List ℕ} → m1 ≡ sets m 0 (registersBytes (c .registers)) → m2 ≡ sets m1 statusPlace (flagsBytes (c .status) (c .latches) (c .lines)) → m3 ≡ sets m2 offsetPlace (numbersBytes (c .transfer .offset) (c .transfer .ack) (c .transfer .last) (c .quiet) (c .identity) (c .stack .pointer) (c .keptbad)) → m4 ≡ sets m3 scsiCountPlace (countsBytes (c .transfer .scsi .count) (c .transfer .host .count) (c .transfer .counter)) → Placed m4 scsiBytesPlace (c .transfer .scsi .bytes) 8 m5 → Placed m5 stackBytesPlace (c .stack .bytes) 32 m6 → Placed m6 hostBytesPlace (c .transfer .host .bytes) 128 m7 → m7 ≡ imageOf (view c)
   all-stored m {m1} {m2} {m3} {m4} e1 e2 e3 e4 p5 p6 p7 =
       let l1 : length m1 ≡ length m = rw e1 (length-sets m 0 (registersBytes (c .registers))) in
       let l2 : length m2 ≡ length m1 = rw e2 (length-sets m1 statusPlace (flagsBytes (c .status) (c .latches) (c .lines))) in
       let l3 : length m3 ≡ length m2 =
-      rw e3 (length-sets m2 offsetPlace (numbersBytes (c .transfer .offset) (c .transfer .ack) (c .transfer .last) (c .quiet) (c .identity) (c .stack .pointer)))
+      rw e3 (length-sets m2 offsetPlace (numbersBytes (c .transfer .offset) (c .transfer .ack) (c .transfer .last) (c .quiet) (c .identity) (c .stack .pointer) (c .keptbad)))
       in
       let l4 : length m4 ≡ length m3 = rw e4 (length-sets m3 scsiCountPlace (countsBytes (c .transfer .scsi .count) (c .transfer .host .count) (c .transfer .counter))) in
       let f0 : Filled m 0 [] = none m (omega (arith, p5 .size)) in
       let f1 = stored f0 (registersBytes (c .registers)) (omega arith) e1 in
       let f2 = stored f1 (flagsBytes (c .status) (c .latches) (c .lines)) (omega arith) e2 in
-      let f3 = stored f2 (numbersBytes (c .transfer .offset) (c .transfer .ack) (c .transfer .last) (c .quiet) (c .identity) (c .stack .pointer)) (omega arith) e3 in
+      let f3 = stored f2 (numbersBytes (c .transfer .offset) (c .transfer .ack) (c .transfer .last) (c .quiet) (c .identity) (c .stack .pointer) (c .keptbad)) (omega arith) e3 in
       let f4 = stored f3 (countsBytes (c .transfer .scsi .count) (c .transfer .host .count) (c .transfer .counter)) (omega arith) e4 in
       whole (copied (copied (copied f4 (omega arith) p5) (omega arith) p6) (omega arith) p7) ∙ of-chip
 

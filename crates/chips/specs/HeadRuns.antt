@@ -41,9 +41,9 @@ abbrev pub flagsBytes : Status → Latches → Lines → List ℕ
 flagsBytes t k l = statusByte t ∷ latchesByte k ∷ l .byte ∷ upperByte l ∷ controlByte l ∷ []
 
 -- from the offset on
-abbrev pub numbersBytes : ℕ → Bool → ℕ → ℕ → ℕ → ℕ → List ℕ
-numbersBytes offset ack last quiet identity pointer =
-    offset ∷ one ack ∷ last ∷ quiet ∷ identity ∷ pointer ∷ []
+abbrev pub numbersBytes : ℕ → Bool → ℕ → ℕ → ℕ → ℕ → Bool → List ℕ
+numbersBytes offset ack last quiet identity pointer kept =
+    offset ∷ one ack ∷ last ∷ quiet ∷ identity ∷ pointer ∷ one kept ∷ []
 
 -- from the counts on
 abbrev pub countsBytes : ℕ → ℕ → ℕ → List ℕ

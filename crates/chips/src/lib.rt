@@ -21,6 +21,7 @@ use crate::taken::stack_at;
 use image::bytes::latches_of;
 use image::bytes::status_of;
 use image::layout::IDENTITY;
+use image::layout::KEPT_PARITY;
 use image::layout::Image;
 use image::layout::LATCHES;
 use image::layout::QUIET;
@@ -47,6 +48,7 @@ pub fn store(c: Chip, m: &mut Image)
         c.quiet,
         c.identity,
         stack.pointer,
+        c.keptbad,
         m,
     );
     put_counts(path.scsi.count, path.host.count, path.counter, m);
@@ -73,6 +75,7 @@ pub fn load(m: &Image) -> Chip
         status: status,
         latches: latches,
         stack: stack,
+        keptbad: m[KEPT_PARITY] == 1,
         quiet: m[QUIET],
         identity: m[IDENTITY],
     }

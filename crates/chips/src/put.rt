@@ -21,6 +21,7 @@ use image::layout::DMACNTRL1;
 use image::layout::HOST_BYTES;
 use image::layout::HOST_COUNT;
 use image::layout::IDENTITY;
+use image::layout::KEPT_PARITY;
 use image::layout::Image;
 use image::layout::LAST;
 use image::layout::LATCHES;
@@ -93,9 +94,10 @@ pub fn put_numbers(
     quiet: u8,
     identity: u8,
     pointer: u8,
+    kept: bool,
     m: &mut Image,
 )
-    ensures { λ _. ⌜ (now (m .exit) ≡ sets (now (m .entry)) offsetPlace (numbersBytes offset ack last quiet identity pointer)) × (last < 256) ⌝ }
+    ensures { λ _. ⌜ (now (m .exit) ≡ sets (now (m .entry)) offsetPlace (numbersBytes offset ack last quiet identity pointer kept)) × (last < 256) ⌝ }
 {
     m[OFFSET] = offset;
     m[ACK] = ack as u8;
@@ -103,6 +105,7 @@ pub fn put_numbers(
     m[QUIET] = quiet;
     m[IDENTITY] = identity;
     m[POINTER] = pointer;
+    m[KEPT_PARITY] = kept as u8;
 }
 
 // The counts of the FIFOs, and the counter's three bytes.

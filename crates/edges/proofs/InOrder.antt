@@ -15,6 +15,8 @@ use Rattle.rules.proofs.InOrder.{falls-keeps}
 use Rattle.rules.proofs.Logic.{never, left-true}
 use Rattle.edges.specs.Components.{registersB, transferB, statusB}
 use Rattle.edges.specs.From.{rstRisesFrom, reqRisesFrom, synchronousReqFrom, quietFrom, edgesFrom, appliedFrom}
+use Rattle.edges.specs.ParityKept.{keptOf, keptFrom}
+use Rattle.edges.proofs.ParityKept.{kept-none, kept-data}
 use Rattle.edges.specs.Since.{lastOf, beyondSince, rstOf, reqOf, mismatchedOf}
 use Rattle.edges.specs.declared.edges.Edges.{Edges}
 use Rattle.edges.specs.declared.last.Seen.{Seen}
@@ -176,10 +178,10 @@ module _ (was : Bool) (now : State) where
   unfolding storedByte
   stored-as = stored-last (reqWithin now && ioSeen now) (now .transfer .scsi) _
 
-  applied-risen : (free : Bool) (quiet : ℕ) → appliedFrom (risenEdges now free quiet) was now ≡ endsBy was free quiet (reqRisen now)
+  applied-risen : (free : Bool) (quiet : ℕ) → appliedFrom (risenEdges now free quiet) was (keptOf now) ≡ endsBy was free quiet (reqRisen now)
   unfolding appliedFrom registersB transferB statusB attention reqRisen busFreed mismatched matched connected bsySeen selSeen rstSeen
-  applied-risen true quiet = rw stored-as
-  applied-risen false quiet = rw stored-as
+  applied-risen true quiet = rw (kept-data now, stored-as)
+  applied-risen false quiet = rw (kept-data now, stored-as)
 
 module _ (last : State) (ticks : ℕ) (now : State) where
   abbrev rst : Bool
@@ -213,7 +215,7 @@ module _ (last : State) (ticks : ℕ) (now : State) where
   free-fallen = falls-keeps (λ n. busFree ticks n ≡ busFree ticks now) last now refl (λ h. h)
 
   abbrev Ordered : Type 0
-  Ordered = inOrder last ticks now ≡ appliedFrom (edgesFrom rst req now ticks) was now
+  Ordered = inOrder last ticks now ≡ appliedFrom (edgesFrom rst req now ticks) was (keptFrom req now)
 
   -- what "REQ rises" is handed, and the state that it leaves
   handed : {n m : State} → afterRstRises last (afterReqFalls last now) ≡ n → afterReqRises last n ≡ m → inOrder last ticks now ≡ endsBy was (busFree ticks m) (quietAfter ticks m) m
@@ -223,26 +225,39 @@ module _ (last : State) (ticks : ℕ) (now : State) where
       ∙ ap (λ (x : State). afterPhaseChanges last (afterQuietTicks ticks x)) b
       ∙ two-steps last ticks m
 
-  side : {g : Edges} → edgesFrom rst req now ticks ≡ g → appliedFrom g was now ≡ appliedFrom (edgesFrom rst req now ticks) was now
-  side e = ap (λ (g : Edges). appliedFrom g was now) (sym e)
+  side : {g : Edges} {n : State} → edgesFrom rst req now ticks ≡ g → keptFrom req now ≡ n → appliedFrom g was n ≡ appliedFrom (edgesFrom rst req now ticks) was (keptFrom req now)
+  side e k = λ i. appliedFrom (sym e i) was (sym k i)
+
+  -- a REQ that rises, by REQ as it was
+  from-risen : {b : Bool} → reqRises last now ≡ b → reqRisesFrom req now ≡ b
+  unfolding reqRises reqRisesFrom
+  from-risen u = u
+
+  unrisen-reset : rstRises last now ≡ true → reqRisesFrom req now ≡ false
+  unfolding rstRises reqRisesFrom
+  unrisen-reset r = rw (left-true (rstSeen now) (not rst) r, and-false)
+
+  kept-risen : reqRises last now ≡ true → keptFrom req now ≡ keptOf now
+  unfolding keptFrom
+  kept-risen u = rw (from-risen u)
 
   ordered-reset : rstRises last now ≡ true → Ordered
   ordered-reset r =
       handed (reset-two last now r) (stays last (busReset now) (reset-no-req last now r))
-      ∙ sym (applied-reset was now (reqFalls last now) _ _) ∙ side (edges-reset r)
+      ∙ sym (applied-reset was now (reqFalls last now) _ _) ∙ side (edges-reset r) (kept-none req now (unrisen-reset r))
 
   ordered-risen : rstRises last now ≡ false → reqRises last now ≡ true → Ordered
   ordered-risen r u =
-      handed (unreset-two last now r ∙ unfallen last now u) (rises last now u) ∙ sym (applied-risen was now _ _) ∙ side (edges-risen r u)
+      handed (unreset-two last now r ∙ unfallen last now u) (rises last now u) ∙ sym (applied-risen was now _ _) ∙ side (edges-risen r u) (kept-risen u)
 
   ordered-other : rstRises last now ≡ false → reqRises last now ≡ false → Ordered
   unfolding afterReqFalls
   ordered-other r u =
       handed (unreset-two last now r) (stays last (afterReqFalls last now) (unrisen last now u))
-      ∙ rw (quiet-fallen, free-fallen) (sym (applied-other was now (reqFalls last now) _ _)) ∙ side (edges-other r u)
+      ∙ rw (quiet-fallen, free-fallen) (sym (applied-other was now (reqFalls last now) _ _)) ∙ side (edges-other r u) (kept-none req now (from-risen u))
 
   -- IN ORDER AND SIDE BY SIDE ARE ONE
-  pub in-order : inOrder last ticks now ≡ appliedFrom (edgesFrom rst req now ticks) was now
+  pub in-order : inOrder last ticks now ≡ appliedFrom (edgesFrom rst req now ticks) was (keptFrom req now)
   in-order = by (rstRises last now) (reqRises last now) refl refl
     where
       by : (r u : Bool) → rstRises last now ≡ r → reqRises last now ≡ u → Ordered
@@ -264,7 +279,7 @@ module _ (last : State) (ticks : ℕ) (now : State) where
 
 -- B since the bytes that were seen
 module _ (x : Seen) (ticks : ℕ) (now : State) where
-  pub since : appliedFrom (edgesFrom (rstOf x) (reqOf x) now ticks) (mismatchedOf x) now ≡ inOrder (lastOf x) ticks now
+  pub since : appliedFrom (edgesFrom (rstOf x) (reqOf x) now ticks) (mismatchedOf x) (keptFrom (reqOf x) now) ≡ inOrder (lastOf x) ticks now
   unfolding rstOf reqOf mismatchedOf stateAt
   since = sym (in-order (lastOf x) ticks now)
 
@@ -275,7 +290,7 @@ module _ (x : Seen) (ticks : ℕ) (now : State) where
   -- is B since any state that has them
   module _ (s : State) (p : rstOf x ≡ rstSeen s) (q : reqOf x ≡ reqSeen s) where
     pub as-seen : mismatchedOf x ≡ mismatched s → inOrder (lastOf x) ticks now ≡ inOrder s ticks now
-    as-seen r = sym since ∙ (λ i. appliedFrom (edgesFrom (p i) (q i) now ticks) (r i) now) ∙ sym (in-order s ticks now)
+    as-seen r = sym since ∙ (λ i. appliedFrom (edgesFrom (p i) (q i) now ticks) (r i) (keptFrom (q i) now)) ∙ sym (in-order s ticks now)
 
     pub beyond-as-seen : beyondSince x now ≡ beyond s (afterRstRises s (afterReqFalls s now))
     beyond-as-seen = sym beyond-since ∙ (λ i. (edgesFrom (p i) (q i) now ticks) .beyond) ∙ sym (beyond-in-order s ticks now)

@@ -56,7 +56,7 @@ module _ (s : State) (io : ioSeen s ≡ true) where
   unfolding paritySeen parityDriven
   inbound-parity = rw (not-driving, or-false)
 
-  inbound-even : parityEven s ≡ inboundEven s
+  pub inbound-even : parityEven s ≡ inboundEven s
   unfolding parityEven
   inbound-even = rw (inbound-data, inbound-parity)
 

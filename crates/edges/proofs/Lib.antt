@@ -1,3 +1,4 @@
+pub mod ParityKept
 pub mod InOrder
 pub mod Laws
 pub mod EdgesIn

@@ -18,6 +18,8 @@ use Rattle.image.specs.Image.{imageOf, stateAt, IsImage}
 use Rattle.image.specs.Layout.{controlPlace, quietPlace, scsiseqPlace, scsisigPlace, upperPlace}
 use Rattle.edges.specs.declared.last.Seen.{Seen}
 use Rattle.edges.specs.From.{rstRisesFrom, reqRisesFrom, synchronousReqFrom, quietFrom, edgesFrom, appliedFrom}
+use Rattle.edges.specs.ParityKept.{keptFrom}
+use Rattle.edges.proofs.ParityKept.{kept-none}
 use Rattle.edges.specs.Since.{seenOf, rstOf, reqOf, mismatchedOf}
 use Rattle.edges.proofs.Placed.{quiet-placed}
 
@@ -105,6 +107,10 @@ module _ (s : State) where
   still-applied : appliedFrom (edgesFrom rst req s 0) (mismatched s) s ≡ withQuiet (quietFrom rst s 0) s
   still-applied = ap (λ (g : Edges). appliedFrom g (mismatched s) s) still ∙ unmoved (quietFrom rst s 0)
 
+  req-still : reqRisesFrom req s ≡ false
+  unfolding reqRisesFrom
+  req-still = rises-not req (not rst)
+
   still-beyond : false ≡ (edgesFrom rst req s 0) .beyond
   still-beyond = ap (λ (g : Edges). g .beyond) (sym still)
 
@@ -129,8 +135,15 @@ module _ (m : List ℕ) (g : IsImage m) (x : Seen) (e : seenOf m ≡ x) {ticks :
       ap (λ (n : ℕ). imageOf (withQuiet n s)) h ∙ ap imageOf (sym (still-applied s))
       ∙ (λ i. imageOf (appliedFrom (edgesFrom (rst-is i) (req-is i) s (sym t i)) (mismatched-is i) s))
 
-  pub seen-quieted : busyB false s ≡ true → set m quietPlace 0 ≡ imageOf (appliedFrom (edgesFrom (rstOf x) (reqOf x) s ticks) (mismatchedOf x) s)
-  seen-quieted b = quiet-placed m 0 s (g .packed) ∙ applied-is (quiet-zeroed s b)
+  -- REQ is as it was, so that no parity is kept
+  same-kept : s ≡ keptFrom (reqOf x) s
+  same-kept = sym (kept-none (reqOf x) s (ap (λ (q : Bool). reqRisesFrom q s) (sym req-is) ∙ req-still s))
 
-  pub seen-unchanged : busyB false s ≡ false → m ≡ imageOf (appliedFrom (edgesFrom (rstOf x) (reqOf x) s ticks) (mismatchedOf x) s)
-  seen-unchanged b = g .packed ∙ applied-is (quiet-left s b (omega (arith, g .range .quiet)))
+  kept-same : imageOf (appliedFrom (edgesFrom (rstOf x) (reqOf x) s ticks) (mismatchedOf x) s) ≡ imageOf (appliedFrom (edgesFrom (rstOf x) (reqOf x) s ticks) (mismatchedOf x) (keptFrom (reqOf x) s))
+  kept-same = ap (λ (n : State). imageOf (appliedFrom (edgesFrom (rstOf x) (reqOf x) s ticks) (mismatchedOf x) n)) same-kept
+
+  pub seen-quieted : busyB false s ≡ true → set m quietPlace 0 ≡ imageOf (appliedFrom (edgesFrom (rstOf x) (reqOf x) s ticks) (mismatchedOf x) (keptFrom (reqOf x) s))
+  seen-quieted b = quiet-placed m 0 s (g .packed) ∙ applied-is (quiet-zeroed s b) ∙ kept-same
+
+  pub seen-unchanged : busyB false s ≡ false → m ≡ imageOf (appliedFrom (edgesFrom (rstOf x) (reqOf x) s ticks) (mismatchedOf x) (keptFrom (reqOf x) s))
+  seen-unchanged b = g .packed ∙ applied-is (quiet-left s b (omega (arith, g .range .quiet))) ∙ kept-same

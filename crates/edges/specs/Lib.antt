@@ -4,4 +4,5 @@ pub mod From
 pub mod Components
 pub mod Stored
 pub mod Frequent
+pub mod ParityKept
 pub mod Since

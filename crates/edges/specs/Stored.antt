@@ -8,8 +8,9 @@ use Rattle.rules.specs.Numbers.{one}
 use Rattle.rules.specs.Registers.{scsiseqOf, scsiseqByte, sxfrctl0Of, sxfrctl0Byte, scsisigOf}
 use Rattle.rules.specs.declared.chip.Status.{Status}
 use Rattle.edges.specs.Components.{scsiseqB, sxfrctl0B, scsisigB}
-use Rattle.image.specs.Image.{scsisigByte, statusOf, statusByte}
-use Rattle.image.specs.Layout.{ackPlace, offsetPlace, scsiBytesPlace, scsiCountPlace, scsiseqPlace, scsisigPlace, statusPlace, sxfrctl0Place}
+use Rattle.edges.specs.ParityKept.{errorOr}
+use Rattle.image.specs.Image.{scsisigByte, statusOf, statusByte, latchesOf, latchesByte}
+use Rattle.image.specs.Layout.{ackPlace, latchesPlace, offsetPlace, scsiBytesPlace, scsiCountPlace, scsiseqPlace, scsisigPlace, statusPlace, sxfrctl0Place}
 
 -- 340h, 341h and 343h
 abbrev pub registersStored : Bool → Bool → Bool → List ℕ → List ℕ
@@ -29,3 +30,7 @@ offsetStored zeroed within released m =
 -- the status, changed by a part of B
 abbrev pub statusStored : (Status → Status) → List ℕ → List ℕ
 statusStored part m = set m statusPlace (statusByte (part (statusOf (getD m statusPlace 0))))
+
+-- the latch of SCSIPERR
+abbrev pub latchesStored : Bool → List ℕ → List ℕ
+latchesStored error m = set m latchesPlace (latchesByte (errorOr error (latchesOf (getD m latchesPlace 0))))

@@ -16,6 +16,7 @@ use image::layout::QUIET;
 mod after;
 mod edges;
 mod found;
+mod kept;
 pub mod last;
 pub mod since;
 mod single;

@@ -9,6 +9,7 @@ ghost use Rattle.edges.specs.Since.{seenOf, lastOf, beyondSince, rstOf, 
 ghost use Rattle.image.specs.Layout.{controlPlace, scsiseqPlace, scsisigPlace, upperPlace};
 use crate::edges_in;
 use crate::found::busy;
+use crate::kept::kept_in;
 use crate::last::Before;
 use crate::last::Seen;
 use crate::last_seen;
@@ -67,5 +68,6 @@ pub fn edges_since(m: &mut Image, x: Seen, ticks: u32) -> bool
         return false;
     }
     let was = before_of(x);
+    kept_in(m, was.req);
     edges_in(m, was, ticks)
 }

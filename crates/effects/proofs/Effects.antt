@@ -11,7 +11,7 @@ use Rattle.rules.specs.State.{State}
 use Rattle.rules.specs.Stack.{stackWritten, pointed}
 use Rattle.rules.specs.Codes.{accessCode}
 use Rattle.rules.specs.Events.{writes, reads}
-use Rattle.rules.specs.StepA.{latchAccess, automaticAck, statusA, latchesA}
+use Rattle.rules.specs.StepA.{latchAccess, automaticAck, errorA, statusA, latchesA}
 use Rattle.rules.specs.declared.codes.Code.the-variants.{Done}
 use Rattle.rules.specs.declared.map.Register.the-variants.{SCSISEQ, SXFRCTL1, SCSISIGO, SCSIRATE, SCSIID, SIMODE0, SIMODE1, BRSTCNTRL}
 use Rattle.rules.specs.declared.records.Event.the-variants.{Write, WordRead}
@@ -70,7 +70,7 @@ sxfrctl0 = record { fits = omega arith; done = λ s v. write-code s 0x01 v; afte
 abbrev pub latchFilled : Bool → Bool → State → ℕ → State
 latchFilled accessed acked s v =
     let t = storing 0x06 (ackCounted acked s) v in
-    withStatus (statusA accessed acked (t .registers .sxfrctl1 .enspchk) (t .status) WordRead) t
+    withStatus (statusA accessed acked (t .registers .sxfrctl1 .enspchk) (t .keptbad) (t .status) WordRead) t
 
 pub scsidat : Does 0x06 (λ (s : State) (v : ℕ). latchFilled (latchAccess s (Write 0x06 v)) (automaticAck s (Write 0x06 v)) s v)
 unfolding Leaving
@@ -106,7 +106,7 @@ clrsint0 = record { fits = omega arith; done = λ s v. write-code s 0x0B v; afte
 
 -- "A write to 34Ch clears the named status bits and latches; bit 6 clears ATN."
 abbrev pub flagsWritten : ℕ → State → ℕ → State
-flagsWritten o s v = withStatus (statusA false false (s .registers .sxfrctl1 .enspchk) (s .status) (Write o v)) s
+flagsWritten o s v = withStatus (statusA false false (s .registers .sxfrctl1 .enspchk) (s .keptbad) (s .status) (Write o v)) s
 
 pub clrsint1 : Does 0x0C (λ (s : State) (v : ℕ). withLatches (latchesA (s .latches) (Write 0x0C v)) (flagsWritten 0x0C (storing 0x0C s v) v))
 unfolding Leaving

@@ -11,7 +11,7 @@ use Rattle.rules.specs.Events.{writes, ticksOf}
 use Rattle.rules.specs.Codes.{accessCode, isDone, isRefusal, refusedValue, mappedCode}
 use Rattle.rules.specs.Reads.{valueRead}
 use Rattle.rules.specs.Ranges.{InRange, InBytes}
-use Rattle.rules.specs.StepA.{clears, clearsError, latchAccess, automaticAck, statusA, afterA}
+use Rattle.rules.specs.StepA.{clears, clearsError, latchAccess, automaticAck, errorA, statusA, afterA}
 use Rattle.rules.specs.declared.codes.Code.{Code}
 use Rattle.rules.specs.declared.codes.Code.the-variants.{Done}
 use Rattle.rules.specs.declared.map.Register.{Register}
@@ -47,8 +47,8 @@ module _ {m : List ℕ} (g : IsImage m) (o : ℕ) where
 abbrev pub unheld : State → ℕ → State
 unheld s o = withStatus (s .status) (afterA s (Read o))
 
-hold-last : (s : State) (o : ℕ) → withStatus (statusA (latchAccess s (Read o)) (automaticAck s (Read o)) ((unheld s o) .registers .sxfrctl1 .enspchk) (s .status) WordRead) (unheld s o) ≡ afterA s (Read o)
-unfolding afterA statusA clears clearsError writes
+hold-last : (s : State) (o : ℕ) → withStatus (statusA (latchAccess s (Read o)) (automaticAck s (Read o)) ((unheld s o) .registers .sxfrctl1 .enspchk) ((unheld s o) .keptbad) (s .status) WordRead) (unheld s o) ≡ afterA s (Read o)
+unfolding afterA errorA statusA clears clearsError writes
 hold-last s o = refl
 
 module _ {m : List ℕ} (g : IsImage m) (o : ℕ) (f : o < 32) (d : accessCode (stateAt m) (Read o) ≡ Done) where
@@ -70,12 +70,12 @@ module _ {m : List ℕ} (g : IsImage m) (o : ℕ) (f : o < 32) (d : accessCode (
     unheld-image = image-is (unheld s o) e1 fits bytes
 
     module _ {accessed acked : Bool} (p : accessed ≡ latchAccess s (Read o)) (q : acked ≡ automaticAck s (Read o)) where
-      held : {m2 : List ℕ} → m2 ≡ imageOf (withStatus (statusA accessed acked ((stateAt m1) .registers .sxfrctl1 .enspchk) ((stateAt m1) .status) WordRead) (stateAt m1)) → m2 ≡ imageOf (afterA s (Read o))
+      held : {m2 : List ℕ} → m2 ≡ imageOf (withStatus (statusA accessed acked ((stateAt m1) .registers .sxfrctl1 .enspchk) ((stateAt m1) .keptbad) ((stateAt m1) .status) WordRead) (stateAt m1)) → m2 ≡ imageOf (afterA s (Read o))
       held h =
-          onward (λ (x : State). withStatus (statusA accessed acked (x .registers .sxfrctl1 .enspchk) (x .status) WordRead) x) (unheld s o) e1 fits bytes h
-          ∙ (λ i. imageOf (withStatus (statusA (p i) (q i) ((unheld s o) .registers .sxfrctl1 .enspchk) (s .status) WordRead) (unheld s o)))
+          onward (λ (x : State). withStatus (statusA accessed acked (x .registers .sxfrctl1 .enspchk) (x .keptbad) (x .status) WordRead) x) (unheld s o) e1 fits bytes h
+          ∙ (λ i. imageOf (withStatus (statusA (p i) (q i) ((unheld s o) .registers .sxfrctl1 .enspchk) ((unheld s o) .keptbad) (s .status) WordRead) (unheld s o)))
           ∙ ap imageOf (hold-last s o)
 
-      pub read-acts : {m2 : List ℕ} {v : ℕ} {a : Acted} → m2 ≡ imageOf (withStatus (statusA accessed acked ((stateAt m1) .registers .sxfrctl1 .enspchk) ((stateAt m1) .status) WordRead) (stateAt m1)) → v ≡ valueRead s (Read o) → a ≡ doneWith v 0 → Acts s (Read o) m2 a
+      pub read-acts : {m2 : List ℕ} {v : ℕ} {a : Acted} → m2 ≡ imageOf (withStatus (statusA accessed acked ((stateAt m1) .registers .sxfrctl1 .enspchk) ((stateAt m1) .keptbad) ((stateAt m1) .status) WordRead) (stateAt m1)) → v ≡ valueRead s (Read o) → a ≡ doneWith v 0 → Acts s (Read o) m2 a
       unfolding ticksOf
       read-acts h v a = acts-done s (Read o) d (held h) v refl a

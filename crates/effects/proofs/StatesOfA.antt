@@ -7,7 +7,7 @@ use Rattle.rules.specs.State.{State}
 use Rattle.rules.specs.Events.{ticksOf}
 use Rattle.rules.specs.Codes.{accessCode}
 use Rattle.rules.specs.Reads.{valueRead}
-use Rattle.rules.specs.StepA.{registersA, statusA, latchesA, afterA}
+use Rattle.rules.specs.StepA.{registersA, errorA, statusA, latchesA, afterA}
 use Rattle.rules.specs.Ranges.{InRange, InBytes, EventFits}
 use Rattle.rules.specs.declared.registers.Registers.{Registers}
 use Rattle.rules.specs.declared.codes.Code.the-variants.{Done}
@@ -33,10 +33,10 @@ module _ {m : List ℕ} {t : State} (r : Reached m t) where
   pub there : IsImage m
   there = image-is t (r .image) (r .range) (r .bytes)
 
-  pub flagged : (accessed acked : Bool) (k : Event) {n : List ℕ} → n ≡ imageOf (withStatus (statusA accessed acked ((stateAt m) .registers .sxfrctl1 .enspchk) ((stateAt m) .status) k) (stateAt m)) → Reached n (withStatus (statusA accessed acked (t .registers .sxfrctl1 .enspchk) (t .status) k) t)
+  pub flagged : (accessed acked : Bool) (k : Event) {n : List ℕ} → n ≡ imageOf (withStatus (statusA accessed acked ((stateAt m) .registers .sxfrctl1 .enspchk) ((stateAt m) .keptbad) ((stateAt m) .status) k) (stateAt m)) → Reached n (withStatus (statusA accessed acked (t .registers .sxfrctl1 .enspchk) (t .keptbad) (t .status) k) t)
   flagged accessed acked k h =
       record {
-        image = onward (λ (x : State). withStatus (statusA accessed acked (x .registers .sxfrctl1 .enspchk) (x .status) k) x) t (r .image) (r .range) (r .bytes) h;
+        image = onward (λ (x : State). withStatus (statusA accessed acked (x .registers .sxfrctl1 .enspchk) (x .keptbad) (x .status) k) x) t (r .image) (r .range) (r .bytes) h;
         range = record { registers = r .range .registers; transfer = r .range .transfer; stack = r .range .stack; quiet = r .range .quiet; identity = r .range .identity };
         bytes = record { lines = r .bytes .lines; registers = r .bytes .registers; transfer = r .bytes .transfer; stack = r .bytes .stack };
       }

@@ -10,7 +10,7 @@ use Rattle.rules.specs.State.{State}
 use Rattle.rules.specs.Codes.{accessCode}
 use Rattle.rules.specs.Counter.{counterStep}
 use Rattle.rules.specs.Events.{writes, reads, valueOf, linesAfter, offered, asked, portWrite}
-use Rattle.rules.specs.StepA.{latchAccess, automaticAck, registersA, transferA, hostA, counterA, statusA, latchesA, stackA, identityA, afterA, clears, clearsLatch, clearsError, clrstcnt, clrch, rstfifo}
+use Rattle.rules.specs.StepA.{latchAccess, automaticAck, registersA, transferA, hostA, counterA, errorA, statusA, latchesA, stackA, identityA, afterA, clears, clearsLatch, clearsError, clrstcnt, clrch, rstfifo}
 use Rattle.rules.specs.declared.codes.Code.the-variants.{Done}
 use Rattle.rules.specs.declared.counts.Direction.the-variants.{Up}
 use Rattle.rules.specs.declared.map.Register.{Register}
@@ -25,7 +25,7 @@ storing o s v = withRegisters (registersA (s .registers) (Write o v)) s
 
 -- "While ENSPCHK is 0, SCSIPERR is held at 0"
 abbrev pub kept : State → State
-kept s = withStatus (statusA false false (s .registers .sxfrctl1 .enspchk) (s .status) WordRead) s
+kept s = withStatus (statusA false false (s .registers .sxfrctl1 .enspchk) (s .keptbad) (s .status) WordRead) s
 
 -- "CLRCH empties the SCSI FIFO and zeroes the offset"
 abbrev pub channelCleared : State → ℕ → State
@@ -46,7 +46,7 @@ ackCounted acked s =
 
 -- the state after a write at o; its unfolding is all that A looks at
 unfoldable pub Leaving : ℕ → (State → ℕ → State) → Type 0
-unfolding table writtenAt writes reads valueOf linesAfter offered asked portWrite latchAccess automaticAck registersA transferA hostA counterA statusA latchesA stackA identityA afterA clears clearsLatch clearsError clrstcnt clrch rstfifo
+unfolding table writtenAt writes reads valueOf linesAfter offered asked portWrite latchAccess automaticAck registersA transferA hostA counterA errorA statusA latchesA stackA identityA afterA clears clearsLatch clearsError clrstcnt clrch rstfifo
 Leaving o left = (s : State) (v : ℕ) → left s v ≡ afterA s (Write o v)
 
 -- a write at o is done, and that is the state after it

@@ -51,7 +51,7 @@ fn identity_read(m: &mut Image) -> Acted
 // The value, and "While ENSPCHK is 0, SCSIPERR is held at 0".
 fn plain_read(m: &mut Image, register: Register) -> Acted
     requires { ⌜ IsImage (now m) ⌝ }
-    ensures { λ _. ⌜ now (m .exit) ≡ imageOf (withStatus (statusA false false ((stateAt (now (m .entry))) .registers .sxfrctl1 .enspchk) ((stateAt (now (m .entry))) .status) WordRead) (stateAt (now (m .entry)))) ⌝ }
+    ensures { λ _. ⌜ now (m .exit) ≡ imageOf (withStatus (statusA false false ((stateAt (now (m .entry))) .registers .sxfrctl1 .enspchk) ((stateAt (now (m .entry))) .keptbad) ((stateAt (now (m .entry))) .status) WordRead) (stateAt (now (m .entry)))) ⌝ }
     ensures { λ r. ⌜ r ≡ doneWith (readOf (stateAt (now (m .entry))) register) 0 ⌝ }
 {
     let value = read_register(m, register) as u16;

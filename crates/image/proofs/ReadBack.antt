@@ -306,6 +306,7 @@ module _ (s : State) (f : InRange s) where
         status = status-back (s .status) i;
         latches = latches-back (s .latches) i;
         stack = record { bytes = stack-back i; pointer = s .stack .pointer };
+        keptbad = is-one (s .keptbad) i;
         quiet = s .quiet;
         identity = s .identity;
       }

@@ -10,7 +10,7 @@ use Rattle.rules.specs.Counter.{counterByte}
 use Rattle.rules.specs.Registers.{scsiseqOf, scsiseqByte, sxfrctl0Of, sxfrctl0Byte, sxfrctl1Of, sxfrctl1Byte, scsisigOf, scsirateOf, scsiidOf, simode0Of, simode0Byte, simode1Of, simode1Byte, dmacntrl0Of, dmacntrl0Byte, dmacntrl1Of, dmacntrl1Byte}
 use Rattle.rules.specs.State.{State, Transfer}
 use Rattle.rules.specs.Ranges.{InRange, InBytes}
-use Rattle.image.specs.Layout.{ackPlace, brstcntrlPlace, controlPlace, counterHighPlace, counterLowPlace, counterMiddlePlace, dataPlace, dmacntrl0Place, dmacntrl1Place, hostBytesPlace, hostCountPlace, identityPlace, lastPlace, latchesPlace, offsetPlace, pointerPlace, quietPlace, scsiBytesPlace, scsiCountPlace, scsidatPlace, scsiidPlace, scsiratePlace, scsiseqPlace, scsisigPlace, simode0Place, simode1Place, stackBytesPlace, statusPlace, sxfrctl0Place, sxfrctl1Place, upperPlace}
+use Rattle.image.specs.Layout.{ackPlace, brstcntrlPlace, controlPlace, counterHighPlace, counterLowPlace, counterMiddlePlace, dataPlace, dmacntrl0Place, dmacntrl1Place, hostBytesPlace, hostCountPlace, identityPlace, keptPlace, lastPlace, latchesPlace, offsetPlace, pointerPlace, quietPlace, scsiBytesPlace, scsiCountPlace, scsidatPlace, scsiidPlace, scsiratePlace, scsiseqPlace, scsisigPlace, simode0Place, simode1Place, stackBytesPlace, statusPlace, sxfrctl0Place, sxfrctl1Place, upperPlace}
 use Rattle.rules.specs.declared.registers.Scsisig.{Scsisig}
 use Rattle.rules.specs.declared.registers.Scsirate.{Scsirate}
 use Rattle.rules.specs.declared.registers.Scsiid.{Scsiid}
@@ -67,7 +67,7 @@ upperByte l = byteOf false false false false false false (l .parity) (l .rst)
 abbrev pub controlByte : Lines → ℕ
 controlByte l = byteOf (l .cd) (l .io) (l .msg) (l .atn) (l .sel) (l .bsy) (l .req) (l .ack)
 
--- the 28 bytes before the FIFOs and the stack
+-- the 29 bytes before the FIFOs and the stack
 abbrev pub headOf : State → List ℕ
 headOf s =
     scsiseqByte (s .registers .scsiseq)
@@ -93,6 +93,7 @@ headOf s =
     ∷ s .quiet
     ∷ s .identity
     ∷ s .stack .pointer
+    ∷ one (s .keptbad)
     ∷ length (s .transfer .scsi)
     ∷ length (s .transfer .host)
     ∷ counterByte 2 (s .transfer .counter)
@@ -158,6 +159,7 @@ stateAt m =
       status = statusOf (getD m statusPlace 0);
       latches = latchesOf (getD m latchesPlace 0);
       stack = record { bytes = take 32 (drop stackBytesPlace m); pointer = getD m pointerPlace 0 };
+      keptbad = eqb (getD m keptPlace 0) 1;
       quiet = getD m quietPlace 0;
       identity = getD m identityPlace 0;
     }

@@ -74,32 +74,35 @@ identityPlace = 21
 abbrev pub pointerPlace : ℕ
 pointerPlace = 22
 
+abbrev pub keptPlace : ℕ
+keptPlace = 23
+
 -- how many bytes the FIFOs hold
 abbrev pub scsiCountPlace : ℕ
-scsiCountPlace = 23
+scsiCountPlace = 24
 
 abbrev pub hostCountPlace : ℕ
-hostCountPlace = 24
+hostCountPlace = 25
 
 -- the counter, the highest byte first
 abbrev pub counterHighPlace : ℕ
-counterHighPlace = 25
+counterHighPlace = 26
 
 abbrev pub counterMiddlePlace : ℕ
-counterMiddlePlace = 26
+counterMiddlePlace = 27
 
 abbrev pub counterLowPlace : ℕ
-counterLowPlace = 27
+counterLowPlace = 28
 
 -- the SCSI FIFO, the stack, the host FIFO
 abbrev pub scsiBytesPlace : ℕ
-scsiBytesPlace = 28
+scsiBytesPlace = 29
 
 abbrev pub stackBytesPlace : ℕ
-stackBytesPlace = 36
+stackBytesPlace = 37
 
 abbrev pub hostBytesPlace : ℕ
-hostBytesPlace = 68
+hostBytesPlace = 69
 
 abbrev pub imageSize : ℕ
-imageSize = 196
+imageSize = 197

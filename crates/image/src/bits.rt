@@ -5,6 +5,7 @@ use crate::layout::ACK;
 use crate::layout::DMACNTRL0;
 use crate::layout::DMACNTRL1;
 use crate::layout::Image;
+use crate::layout::KEPT_PARITY;
 use crate::layout::LINES_UPPER;
 use crate::layout::SCSISEQ;
 use crate::layout::SCSISIG;
@@ -36,6 +37,12 @@ pub fn enspchk(m: &Image) -> bool
     ensures { λ b. ⌜ b ≡ (stateAt (now (m .entry))) .registers .sxfrctl1 .enspchk ⌝ }
 {
     (m[SXFRCTL1] >> 5) % 2 == 1
+}
+
+pub fn enscsiperr(m: &Image) -> bool
+    ensures { λ b. ⌜ b ≡ (stateAt (now (m .entry))) .registers .simode1 .enscsiperr ⌝ }
+{
+    (m[SIMODE1] >> 2) % 2 == 1
 }
 
 pub fn atno(m: &Image) -> bool
@@ -140,6 +147,13 @@ pub fn parity_driven_by_others(m: &Image) -> bool
     ensures { λ b. ⌜ b ≡ (stateAt (now (m .entry))) .lines .parity ⌝ }
 {
     (m[LINES_UPPER] >> 1) % 2 == 1
+}
+
+// The kept parity of R-2 is bad.
+pub fn kept_bad(m: &Image) -> bool
+    ensures { λ b. ⌜ b ≡ (stateAt (now (m .entry))) .keptbad ⌝ }
+{
+    m[KEPT_PARITY] == 1
 }
 
 // The automatic ACK.

@@ -50,26 +50,28 @@ pub const IDENTITY: usize = 21;
 
 pub const POINTER: usize = 22;
 
-// how many bytes the FIFOs hold
-pub const SCSI_COUNT: usize = 23;
+pub const KEPT_PARITY: usize = 23;
 
-pub const HOST_COUNT: usize = 24;
+// how many bytes the FIFOs hold
+pub const SCSI_COUNT: usize = 24;
+
+pub const HOST_COUNT: usize = 25;
 
 // the counter, the highest byte first
-pub const COUNTER_HIGH: usize = 25;
+pub const COUNTER_HIGH: usize = 26;
 
-pub const COUNTER_MIDDLE: usize = 26;
+pub const COUNTER_MIDDLE: usize = 27;
 
-pub const COUNTER_LOW: usize = 27;
+pub const COUNTER_LOW: usize = 28;
 
 // the SCSI FIFO, the stack, the host FIFO
-pub const SCSI_BYTES: usize = 28;
+pub const SCSI_BYTES: usize = 29;
 
-pub const STACK_BYTES: usize = 36;
+pub const STACK_BYTES: usize = 37;
 
-pub const HOST_BYTES: usize = 68;
+pub const HOST_BYTES: usize = 69;
 
 // the whole of it
-pub const SIZE: usize = 196;
+pub const SIZE: usize = 197;
 
 pub type Image = [u8; SIZE];

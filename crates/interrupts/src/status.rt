@@ -1,6 +1,6 @@
 // The status byte.
 ghost use mathlib.Core.Path.{_≡_};
-ghost use mathlib.Core.Bool.{false};
+ghost use mathlib.Core.Bool.{false, _&&_, cond};
 ghost use Rattle.rules.specs.Seen.{ackSeen};
 ghost use Rattle.rules.specs.StepA.{statusA};
 ghost use Rattle.rules.specs.StepD.{fifoConflict, pioReady, statusRaised, statusD};
@@ -9,6 +9,7 @@ ghost use Rattle.rules.specs.Changed.{withStatus};
 ghost use Rattle.image.specs.Image.{IsImage, imageOf, stateAt, registersAt};
 use image::bits::automatic_ack;
 use image::bits::enspchk;
+use image::bits::kept_bad;
 use image::bits::reqinit;
 use image::bits::scsien;
 use image::bits::scsiperr;
@@ -32,17 +33,25 @@ fn status_put(m: &mut Image, t: Status)
     m[STATUS] = status_byte(t);
 }
 
+// R-2: "a clear with ENSPCHK set copies [the kept parity] to the status"
+fn error_written(enspchk: bool, kept: bool, error: bool, cleared: bool) -> bool
+    ensures { λ b. ⌜ b ≡ (enspchk && cond cleared kept error) ⌝ }
+{
+    if cleared { enspchk & kept } else { enspchk & error }
+}
+
 // "A write to 34Ch clears the named status bits and latches"; "34Fh clears errors."
-fn status_written(enspchk: bool, t: Status, offset: u8, value: u8) -> Status
-    ensures { λ n. ⌜ n ≡ statusA false false enspchk t (Write offset value) ⌝ }
+fn status_written(enspchk: bool, kept: bool, t: Status, offset: u8, value: u8) -> Status
+    ensures { λ n. ⌜ n ≡ statusA false false enspchk kept t (Write offset value) ⌝ }
 {
     let clears = offset == map::offset_of(Register::CLRSINT1);
     let errors = offset == map::offset_of(Register::CLRSERR);
+    let error = error_written(enspchk, kept, t.scsiperr, clears & ((value >> 2) % 2 == 1));
     Status {
         spiordy: t.spiordy,
         scsirsti: !(clears & ((value >> 5) % 2 == 1)) & t.scsirsti,
         busfree: !(clears & ((value >> 3) % 2 == 1)) & t.busfree,
-        scsiperr: !(clears & ((value >> 2) % 2 == 1)) & enspchk & t.scsiperr,
+        scsiperr: error,
         phasechg: !(clears & ((value >> 1) % 2 == 1)) & t.phasechg,
         reqinit: !(clears & ((value >> 0) % 2 == 1)) & t.reqinit,
         syncerr: !(errors & ((value >> 2) % 2 == 1)) & t.syncerr,
@@ -50,9 +59,9 @@ fn status_written(enspchk: bool, t: Status, offset: u8, value: u8) -> Status
     }
 }
 
-// Where no register is written, as at a word read.
+// Where no register is written, as at a word read; the kept parity is not asked then.
 fn status_kept(accessed: bool, acked: bool, enspchk: bool, t: Status) -> Status
-    ensures { λ n. ⌜ n ≡ statusA accessed acked enspchk t WordRead ⌝ }
+    ensures { λ n. ⌜ n ≡ statusA accessed acked enspchk false t WordRead ⌝ }
 {
     let mut n = t;
     n.spiordy = !accessed & t.spiordy;
@@ -64,7 +73,7 @@ fn status_kept(accessed: bool, acked: bool, enspchk: bool, t: Status) -> Status
 // "While ENSPCHK is 0, SCSIPERR is held at 0": at every event. Most change nothing.
 pub fn status_kept_in(m: &mut Image, accessed: bool, acked: bool)
     requires { ⌜ IsImage (now m) ⌝ }
-    ensures { λ _. ⌜ now (m .exit) ≡ imageOf (withStatus (statusA accessed acked ((stateAt (now (m .entry))) .registers .sxfrctl1 .enspchk) ((stateAt (now (m .entry))) .status) WordRead) (stateAt (now (m .entry)))) ⌝ }
+    ensures { λ _. ⌜ now (m .exit) ≡ imageOf (withStatus (statusA accessed acked ((stateAt (now (m .entry))) .registers .sxfrctl1 .enspchk) ((stateAt (now (m .entry))) .keptbad) ((stateAt (now (m .entry))) .status) WordRead) (stateAt (now (m .entry)))) ⌝ }
 {
     let enspchk = enspchk(m);
     let scsiperr = scsiperr(m);
@@ -78,10 +87,11 @@ pub fn status_kept_in(m: &mut Image, accessed: bool, acked: bool)
 // A write of 34Ch or 34Fh.
 pub fn status_written_in(m: &mut Image, offset: u8, value: u8)
     requires { ⌜ IsImage (now m) ⌝ }
-    ensures { λ _. ⌜ now (m .exit) ≡ imageOf (withStatus (statusA false false ((stateAt (now (m .entry))) .registers .sxfrctl1 .enspchk) ((stateAt (now (m .entry))) .status) (Write offset value)) (stateAt (now (m .entry)))) ⌝ }
+    ensures { λ _. ⌜ now (m .exit) ≡ imageOf (withStatus (statusA false false ((stateAt (now (m .entry))) .registers .sxfrctl1 .enspchk) ((stateAt (now (m .entry))) .keptbad) ((stateAt (now (m .entry))) .status) (Write offset value)) (stateAt (now (m .entry)))) ⌝ }
 {
     let enspchk = enspchk(m);
-    let t = status_written(enspchk, status_of(m[STATUS]), offset, value);
+    let kept = kept_bad(m);
+    let t = status_written(enspchk, kept, status_of(m[STATUS]), offset, value);
     status_put(m, t);
 }
 

@@ -11,8 +11,8 @@ use Rattle.rules.specs.Stack.{stackPlace, stackByte, pointerAfter, stack
 use Rattle.rules.specs.Interrupts.{phasemis, instat, irq}
 use Rattle.rules.specs.Reads.{scsisigi, scsibus, sstat0, sstat1, sstat2, sstat3, sstat4, dmastat, idBytes, readOf, valueRead}
 use Rattle.rules.specs.Codes.{absent, testValue, shut, noRoom, noBytes, accessCode, refusedValue}
-use Rattle.rules.specs.StepA.{clears, clearsLatch, clearsError, clrstcnt, clrch, rstfifo, latchAccess, automaticAck, registersA, hostA, counterA, transferA, statusA, latchesA, stackA, identityA, afterA}
-use Rattle.rules.specs.StepB.{reqFalls, ackReleased, afterReqFalls, rstRises, busReset, afterRstRises, reqRises, parityBad, attention, synchronousReq, beyondLimit, beyond, reqWithin, lateByte, storedByte, reqRisen, afterReqRises, quietAfter, busFree, busFreed, afterQuietTicks, phaseChanges, phaseChanged, afterPhaseChanges, inOrder, afterB, atReq}
+use Rattle.rules.specs.StepA.{clears, clearsLatch, clearsError, clrstcnt, clrch, rstfifo, latchAccess, automaticAck, registersA, hostA, counterA, transferA, errorA, statusA, latchesA, stackA, identityA, afterA}
+use Rattle.rules.specs.StepB.{reqFalls, ackReleased, afterReqFalls, rstRises, busReset, afterRstRises, reqRises, parityBad, keptAfter, errorLatched, attention, synchronousReq, beyondLimit, beyond, reqWithin, lateByte, storedByte, reqRisen, afterReqRises, quietAfter, busFree, busFreed, afterQuietTicks, phaseChanges, phaseChanged, afterPhaseChanges, inOrder, afterB, atReq}
 use Rattle.rules.specs.StepC.{conditions, canMove, move, canAsynchronous, canSynchronous, canHandshake, handshake, turn, settle, started, settledC}
 use Rattle.rules.specs.StepD.{fifoConflict, pioReady, statusRaised, statusD, latchesD, finished, afterD}
 use Rattle.rules.specs.Answers.{controlDriven, answerOf, answerBytes}
@@ -20,5 +20,5 @@ use Rattle.rules.specs.Step.{ended, done, access, stepEvent, stepDecoded
 use Rattle.rules.specs.Examples.{missesFrom, misses, words, printed, wordAt126, wordAt127, ticks78, kind7, stack16, stack32, byteAt0, byteAt16, marked}
 
 unfoldable pub computes : ℕ
-unfolding ones padded powerReset rstSeen atnSeen selSeen bsySeen manual automatic normal ackDriven ackSeen connected matched path synchronous limit mismatched driving dataDriven parityDriven dataSeen paritySeen parityEven table readAt writtenAt linesOf wellFormed fieldsOf decode writes reads valueOf ticksOf linesAfter offered asked wide portWrite portRead steppedTo counterStep stackPlace stackByte pointerAfter stackRead stackWritten pointed phasemis instat irq scsisigi scsibus sstat0 sstat1 sstat2 sstat3 sstat4 dmastat idBytes readOf valueRead absent testValue shut noRoom noBytes accessCode refusedValue clears clearsLatch clearsError clrstcnt clrch rstfifo latchAccess automaticAck registersA hostA counterA transferA statusA latchesA stackA identityA afterA reqFalls ackReleased afterReqFalls rstRises busReset afterRstRises reqRises parityBad attention synchronousReq beyondLimit beyond reqWithin lateByte storedByte reqRisen afterReqRises quietAfter busFree busFreed afterQuietTicks phaseChanges phaseChanged afterPhaseChanges inOrder afterB atReq conditions canMove move canAsynchronous canSynchronous canHandshake handshake turn settle started settledC fifoConflict pioReady statusRaised statusD latchesD finished afterD controlDriven answerOf answerBytes ended done access stepEvent stepDecoded step answer called missesFrom misses words printed wordAt126 wordAt127 ticks78 kind7 stack16 stack32 byteAt0 byteAt16 marked
+unfolding ones padded powerReset rstSeen atnSeen selSeen bsySeen manual automatic normal ackDriven ackSeen connected matched path synchronous limit mismatched driving dataDriven parityDriven dataSeen paritySeen parityEven table readAt writtenAt linesOf wellFormed fieldsOf decode writes reads valueOf ticksOf linesAfter offered asked wide portWrite portRead steppedTo counterStep stackPlace stackByte pointerAfter stackRead stackWritten pointed phasemis instat irq scsisigi scsibus sstat0 sstat1 sstat2 sstat3 sstat4 dmastat idBytes readOf valueRead absent testValue shut noRoom noBytes accessCode refusedValue clears clearsLatch clearsError clrstcnt clrch rstfifo latchAccess automaticAck registersA hostA counterA transferA errorA statusA latchesA stackA identityA afterA reqFalls ackReleased afterReqFalls rstRises busReset afterRstRises reqRises parityBad keptAfter errorLatched attention synchronousReq beyondLimit beyond reqWithin lateByte storedByte reqRisen afterReqRises quietAfter busFree busFreed afterQuietTicks phaseChanges phaseChanged afterPhaseChanges inOrder afterB atReq conditions canMove move canAsynchronous canSynchronous canHandshake handshake turn settle started settledC fifoConflict pioReady statusRaised statusD latchesD finished afterD controlDriven answerOf answerBytes ended done access stepEvent stepDecoded step answer called missesFrom misses words printed wordAt126 wordAt127 ticks78 kind7 stack16 stack32 byteAt0 byteAt16 marked
 computes = 0

@@ -10,5 +10,6 @@ pub mod Refusals
 pub mod Beliefs
 pub mod Effects
 pub mod Counting
+pub mod KeptParity
 pub mod Witnesses
 pub mod Packing

@@ -54,6 +54,7 @@ read-back s f =
       status = s .status;
       latches = s .latches;
       stack = stack-read-back (s .stack) (f .stack) i;
+      keptbad = s .keptbad;
       quiet = smaller (s .quiet) (f .quiet) i;
       identity = mod-eq-of-lt (f .identity) i;
     }

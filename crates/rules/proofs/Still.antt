@@ -15,7 +15,7 @@ use Rattle.rules.specs.Events.{writes, reads, valueOf, ticksOf, linesAft
 use Rattle.rules.specs.Interrupts.{latched}
 use Rattle.rules.specs.Reads.{valueRead}
 use Rattle.rules.specs.Codes.{absent, testValue, shut, noRoom, noBytes, accessCode, isDone}
-use Rattle.rules.specs.StepA.{clears, clearsLatch, clearsError, clrstcnt, clrch, rstfifo, latchAccess, automaticAck, registersA, hostA, counterA, transferA, statusA, latchesA, stackA, identityA, afterA}
+use Rattle.rules.specs.StepA.{clears, clearsLatch, clearsError, clrstcnt, clrch, rstfifo, latchAccess, automaticAck, registersA, hostA, counterA, transferA, errorA, statusA, latchesA, stackA, identityA, afterA}
 use Rattle.rules.specs.StepB.{reqFalls, ackReleased, afterReqFalls, rstRises, busReset, afterRstRises, reqRises, parityBad, reqRisen, afterReqRises, quietAfter, busFree, busFreed, afterQuietTicks, phaseChanges, phaseChanged, afterPhaseChanges, inOrder, afterB, atReq, beyond}
 use Rattle.rules.specs.StepC.{conditions, canMove, canHandshake, canSynchronous, canAsynchronous, settle, turns, started, settledC}
 use Rattle.rules.specs.StepD.{fifoConflict, pioReady, statusRaised, statusD, latchesD, finished, afterD}
@@ -67,9 +67,9 @@ latch-still false true false = refl
 latch-still false false status = refl
 
 -- A of no ticks
-status-still : (enspchk : Bool) (t : Status) → (enspchk ≡ false → t .scsiperr ≡ false) → statusA false false enspchk t (Ticks 0) ≡ t
-unfolding statusA clears clearsError writes
-status-still enspchk t h =
+status-still : (enspchk kept : Bool) (t : Status) → (enspchk ≡ false → t .scsiperr ≡ false) → statusA false false enspchk kept t (Ticks 0) ≡ t
+unfolding statusA errorA clears clearsError writes
+status-still enspchk kept t h =
     λ i.
     record {
       spiordy = t .spiordy;
@@ -90,9 +90,10 @@ after-a-still s r =
       lines = s .lines;
       registers = s .registers;
       transfer = s .transfer;
-      status = status-still (s .registers .sxfrctl1 .enspchk) (s .status) (r .scsiperr) i;
+      status = status-still (s .registers .sxfrctl1 .enspchk) (s .keptbad) (s .status) (r .scsiperr) i;
       latches = s .latches;
       stack = s .stack;
+      keptbad = s .keptbad;
       quiet = s .quiet;
       identity = s .identity;
     }
@@ -222,6 +223,7 @@ finished-still s r =
       status = status i;
       latches = latches i;
       stack = s .stack;
+      keptbad = s .keptbad;
       quiet = s .quiet;
       identity = s .identity;
     }
@@ -328,8 +330,8 @@ checked-keeps =
     }
 
 parity-rests : (s : State) (e : Event) → Checked (afterB s e)
-unfolding afterA statusA
-parity-rests s e = b-keeps Checked checked-keeps s e (λ h. rw (h, and-false))
+unfolding afterA statusA errorA
+parity-rests s e = b-keeps Checked checked-keeps s e (λ h. rw h)
 
 -- BSY or SEL that is seen after B was seen where the quiet ticks were counted
 none : (b : Bool) (n : ℕ) → b ≡ true → cond b 0 n ≡ 0

@@ -18,6 +18,7 @@ withLines x s =
       status = s .status;
       latches = s .latches;
       stack = s .stack;
+      keptbad = s .keptbad;
       quiet = s .quiet;
       identity = s .identity;
     }
@@ -31,6 +32,7 @@ withRegisters x s =
       status = s .status;
       latches = s .latches;
       stack = s .stack;
+      keptbad = s .keptbad;
       quiet = s .quiet;
       identity = s .identity;
     }
@@ -44,6 +46,7 @@ withTransfer x s =
       status = s .status;
       latches = s .latches;
       stack = s .stack;
+      keptbad = s .keptbad;
       quiet = s .quiet;
       identity = s .identity;
     }
@@ -57,6 +60,7 @@ withStatus x s =
       status = x;
       latches = s .latches;
       stack = s .stack;
+      keptbad = s .keptbad;
       quiet = s .quiet;
       identity = s .identity;
     }
@@ -70,6 +74,7 @@ withLatches x s =
       status = s .status;
       latches = x;
       stack = s .stack;
+      keptbad = s .keptbad;
       quiet = s .quiet;
       identity = s .identity;
     }
@@ -83,6 +88,21 @@ withStack x s =
       status = s .status;
       latches = s .latches;
       stack = x;
+      keptbad = s .keptbad;
+      quiet = s .quiet;
+      identity = s .identity;
+    }
+
+abbrev pub withKept : Bool → State → State
+withKept x s =
+    record {
+      lines = s .lines;
+      registers = s .registers;
+      transfer = s .transfer;
+      status = s .status;
+      latches = s .latches;
+      stack = s .stack;
+      keptbad = x;
       quiet = s .quiet;
       identity = s .identity;
     }
@@ -96,6 +116,7 @@ withQuiet x s =
       status = s .status;
       latches = s .latches;
       stack = s .stack;
+      keptbad = s .keptbad;
       quiet = x;
       identity = s .identity;
     }
@@ -109,6 +130,7 @@ withIdentity x s =
       status = s .status;
       latches = s .latches;
       stack = s .stack;
+      keptbad = s .keptbad;
       quiet = s .quiet;
       identity = x;
     }

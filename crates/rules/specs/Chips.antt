@@ -77,6 +77,7 @@ view c =
       status = c .status;
       latches = c .latches;
       stack = stackView (c .stack);
+      keptbad = c .keptbad;
       quiet = min 8 (c .quiet);
       identity = c .identity % 32;
     }
@@ -91,6 +92,7 @@ chipOf s =
       status = s .status;
       latches = s .latches;
       stack = s .stack;
+      keptbad = s .keptbad;
       quiet = s .quiet;
       identity = s .identity;
     }

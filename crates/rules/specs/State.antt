@@ -19,7 +19,8 @@ pub record Transfer : Type 0 where
   pub ack : Bool
   pub last : ℕ
 
--- lines: those that others drive; quiet: the quiet ticks; identity: the place in the ID string
+-- lines: those that others drive; keptbad: the kept parity of R-2 is bad; quiet: the quiet ticks; identity: the place in the ID
+-- string
 pub record State : Type 0 where
   pub lines : Lines
   pub registers : Registers
@@ -27,10 +28,12 @@ pub record State : Type 0 where
   pub status : Status
   pub latches : Latches
   pub stack : Stack
+  pub keptbad : Bool
   pub quiet : ℕ
   pub identity : ℕ
 
--- "Power reset: everything 0 and empty, all lines released, those others drive included."
+-- "Power reset: everything 0 and empty, all lines released, those others drive included."; R-2: "Before any inbound byte the kept
+-- parity is good."
 abbrev pub released : Lines
 released =
     record {
@@ -90,6 +93,7 @@ powerReset =
       status = statusReset;
       latches = latchesReset;
       stack = record { bytes = replicate 32 0; pointer = 0 };
+      keptbad = false;
       quiet = 0;
       identity = 0;
     }

@@ -110,14 +110,18 @@ transferA acked t e =
       last = t .last;
     }
 
--- "While ENSPCHK is 0, SCSIPERR is held at 0 and does not come back; its latch stays."
-unfoldable pub statusA : Bool → Bool → Bool → Status → Event → Status
-statusA accessed acked enspchk t e =
+-- R-2: "a clear with ENSPCHK set copies [the kept parity] to the status"; else as it was. "While ENSPCHK is 0, SCSIPERR is held at
+-- 0 and does not come back; its latch stays."
+unfoldable pub errorA : Bool → Bool → Bool → Event → Bool
+errorA enspchk kept error e = enspchk && cond (clears e 2) kept error
+
+unfoldable pub statusA : Bool → Bool → Bool → Bool → Status → Event → Status
+statusA accessed acked enspchk kept t e =
     record {
       spiordy = not accessed && t .spiordy;
       scsirsti = not (clears e 5) && t .scsirsti;
       busfree = not (clears e 3) && t .busfree;
-      scsiperr = not (clears e 2) && enspchk && t .scsiperr;
+      scsiperr = errorA enspchk kept (t .scsiperr) e;
       phasechg = not (clears e 1) && t .phasechg;
       reqinit = not (clears e 0) && not acked && t .reqinit;
       syncerr = not (clearsError e 2) && t .syncerr;
@@ -150,9 +154,10 @@ afterA s e =
       lines = linesAfter e (s .lines);
       registers = registersA (s .registers) e;
       transfer = transferA (automaticAck s e) (s .transfer) e;
-      status = statusA (latchAccess s e) (automaticAck s e) ((registersA (s .registers) e) .sxfrctl1 .enspchk) (s .status) e;
+      status = statusA (latchAccess s e) (automaticAck s e) ((registersA (s .registers) e) .sxfrctl1 .enspchk) (s .keptbad) (s .status) e;
       latches = latchesA (s .latches) e;
       stack = stackA (s .registers .dmacntrl1 .enstk32) (s .stack) e;
+      keptbad = s .keptbad;
       quiet = s .quiet;
       identity = identityA (s .identity) e;
     }

@@ -7,7 +7,7 @@ use lib.Dec.{eqb, leb, ltb}
 use lib.ListN.{length}
 use Rattle.rules.specs.Registers.{scsisigOf}
 use Rattle.rules.specs.State.{State}
-use Rattle.rules.specs.Changed.{withRegisters, withStatus, withQuiet, withScsi, withOffset, withAck}
+use Rattle.rules.specs.Changed.{withRegisters, withStatus, withLatches, withKept, withQuiet, withScsi, withOffset, withAck}
 use Rattle.rules.specs.Seen.{rstSeen, selSeen, bsySeen, ioSeen, reqSeen, connected, matched, mismatched, path, synchronous, limit, dataSeen, parityEven}
 use Rattle.rules.specs.Events.{ticksOf}
 use Rattle.rules.specs.StepA.{withAtn, afterA}
@@ -15,6 +15,7 @@ use Rattle.rules.specs.declared.registers.Scsiseq.{Scsiseq}
 use Rattle.rules.specs.declared.registers.Sxfrctl0.{Sxfrctl0}
 use Rattle.rules.specs.declared.registers.Scsisig.{Scsisig}
 use Rattle.rules.specs.declared.registers.Registers.{Registers}
+use Rattle.rules.specs.declared.chip.Latches.{Latches}
 use Rattle.rules.specs.declared.records.Event.{Event}
 
 -- 1. "REQ falls: automatic ACK is released."
@@ -103,6 +104,23 @@ parityBad now =
     connected now && ioSeen now && now .registers .sxfrctl1 .enspchk
     && parityEven now
 
+-- R-2: "the parity at the last connected REQ rise with IO seen is kept", whether ENSPCHK is set or not
+unfoldable pub keptAfter : State → Bool
+keptAfter now = cond (connected now && ioSeen now) (parityEven now) (now .keptbad)
+
+-- R-2: the latch "sets again only at a new error while enabled, even with the status already 1"
+unfoldable pub errorLatched : State → Latches
+errorLatched now =
+    let k = now .latches in
+    record {
+      spiordy = k .spiordy;
+      scsirsti = k .scsirsti;
+      busfree = k .busfree;
+      scsiperr = (parityBad now && now .registers .simode1 .enscsiperr) || k .scsiperr;
+      phasechg = k .phasechg;
+      reqinit = k .reqinit;
+    }
+
 -- "and with ENAUTOATNP 343h bit 4"
 unfoldable pub attention : State → Bool
 attention now = parityBad now && now .registers .scsiseq .enautoatnp
@@ -155,7 +173,8 @@ reqRisen now =
       fwerr = k .fwerr;
     })
     (withRegisters (registersWith (r .scsiseq) (r .sxfrctl0) (withAtn (attention now || r .scsisig .atno) (r .scsisig)) r)
-    (withOffset (cond (reqWithin now) (t .offset + 1) (t .offset)) (withScsi (t .scsi ++ storedByte now) now)))
+    (withOffset (cond (reqWithin now) (t .offset + 1) (t .offset)) (withScsi (t .scsi ++ storedByte now)
+    (withLatches (errorLatched now) (withKept (keptAfter now) now)))))
 
 unfoldable pub afterReqRises : State → State → State
 afterReqRises last now = cond (reqRises last now) (reqRisen now) now

@@ -50,7 +50,8 @@ pub struct Stack {
     pub pointer: u8,
 }
 
-// quiet: ticks for which BSY and SEL were not seen, up to 8; identity: the place in the ID string.
+// keptbad: the parity of the last inbound byte was bad (R-2); quiet: ticks for which BSY and SEL were not seen, up to 8;
+// identity: the place in the ID string.
 pub struct Chip {
     pub lines: Lines,
     pub registers: Registers,
@@ -58,6 +59,7 @@ pub struct Chip {
     pub status: Status,
     pub latches: Latches,
     pub stack: Stack,
+    pub keptbad: bool,
     pub quiet: u8,
     pub identity: u8,
 }

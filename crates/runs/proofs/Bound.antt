@@ -62,21 +62,21 @@ running =
     }
 
 -- a state of the run, whatever its other parts are
-abbrev made : Lines → Transfer → Status → Latches → Stack → ℕ → ℕ → State
-made l t a b c d e =
-    record { lines = l; registers = running; transfer = t; status = a; latches = b; stack = c; quiet = d; identity = e }
+abbrev made : Lines → Transfer → Status → Latches → Stack → Bool → ℕ → ℕ → State
+made l t a b c k d e =
+    record { lines = l; registers = running; transfer = t; status = a; latches = b; stack = c; keptbad = k; quiet = d; identity = e }
 
 record Stage (l : Lines) (t : Transfer) (s : State) : Type 0 where
   lines : s .lines ≡ l
   registers : s .registers ≡ running
   transfer : s .transfer ≡ t
 
-stage-made : (l : Lines) (t : Transfer) (s : State) → Stage l t s → s ≡ made l t (s .status) (s .latches) (s .stack) (s .quiet) (s .identity)
+stage-made : (l : Lines) (t : Transfer) (s : State) → Stage l t s → s ≡ made l t (s .status) (s .latches) (s .stack) (s .keptbad) (s .quiet) (s .identity)
 stage-made l t s p = rw (p .lines, p .registers, p .transfer)
 
 -- what holds of every state of a stage that is made so holds of every state of the stage
-at-stage : (P : State → Type 0) (l : Lines) (t : Transfer) → ((a : Status) (b : Latches) (c : Stack) (d e : ℕ) → P (made l t a b c d e)) → (s : State) → Stage l t s → P s
-at-stage P l t f s p = subst⁻¹ P (stage-made l t s p) (f (s .status) (s .latches) (s .stack) (s .quiet) (s .identity))
+at-stage : (P : State → Type 0) (l : Lines) (t : Transfer) → ((a : Status) (b : Latches) (c : Stack) (k : Bool) (d e : ℕ) → P (made l t a b c k d e)) → (s : State) → Stage l t s → P s
+at-stage P l t f s p = subst⁻¹ P (stage-made l t s p) (f (s .status) (s .latches) (s .stack) (s .keptbad) (s .quiet) (s .identity))
 
 -- between two cycles, after the write, and after the handshake
 abbrev waiting : ℕ → ℕ → Transfer
@@ -93,17 +93,17 @@ record Goes (l : Lines) (t : Transfer) (sent : List ℕ) (r : Stepped) : Type 0 
   stage : Stage l t (r .state)
   sends : r .sent ≡ sent
 
-writes-byte : (n last : ℕ) (a : Status) (b : Latches) (c : Stack) (d e : ℕ) → Goes (linesOf 4) (holding n last) [] (step (made (linesOf 4) (waiting n last) a b c d e) writing)
+writes-byte : (n last : ℕ) (a : Status) (b : Latches) (c : Stack) (k : Bool) (d e : ℕ) → Goes (linesOf 4) (holding n last) [] (step (made (linesOf 4) (waiting n last) a b c k d e) writing)
 unfolding follows
-writes-byte n last a b c d e = record { stage = record { lines = refl; registers = refl; transfer = refl }; sends = refl }
+writes-byte n last a b c k d e = record { stage = record { lines = refl; registers = refl; transfer = refl }; sends = refl }
 
-asks-byte : (n last : ℕ) (a : Status) (b : Latches) (c : Stack) (d e : ℕ) → Goes (linesOf 6) (handed ((counterStep Up n) .value)) (0x55 ∷ []) (step (made (linesOf 4) (holding n last) a b c d e) asking)
+asks-byte : (n last : ℕ) (a : Status) (b : Latches) (c : Stack) (k : Bool) (d e : ℕ) → Goes (linesOf 6) (handed ((counterStep Up n) .value)) (0x55 ∷ []) (step (made (linesOf 4) (holding n last) a b c k d e) asking)
 unfolding follows
-asks-byte n last a b c d e = record { stage = record { lines = refl; registers = refl; transfer = refl }; sends = refl }
+asks-byte n last a b c k d e = record { stage = record { lines = refl; registers = refl; transfer = refl }; sends = refl }
 
-releases : (n : ℕ) (a : Status) (b : Latches) (c : Stack) (d e : ℕ) → Goes (linesOf 4) (waiting n 0x55) [] (step (made (linesOf 6) (handed n) a b c d e) releasing)
+releases : (n : ℕ) (a : Status) (b : Latches) (c : Stack) (k : Bool) (d e : ℕ) → Goes (linesOf 4) (waiting n 0x55) [] (step (made (linesOf 6) (handed n) a b c k d e) releasing)
 unfolding follows
-releases n a b c d e = record { stage = record { lines = refl; registers = refl; transfer = refl }; sends = refl }
+releases n a b c k d e = record { stage = record { lines = refl; registers = refl; transfer = refl }; sends = refl }
 
 -- records after which the counter is n, and which send these bytes
 record Passes (n last : ℕ) (s : State) (records : List (List ℕ)) (sent : List ℕ) : Type 0 where
@@ -176,9 +176,9 @@ record Ends (s : State) : Type 0 where
   middle : 0 < length (readAnswers STCNT1 ((step s cutRecord) .state) readRecords)
   high : 0 < length (readAnswers STCNT2 ((step s cutRecord) .state) readRecords)
 
-ends : (n last : ℕ) (a : Status) (b : Latches) (c : Stack) (d e : ℕ) → Ends (made (linesOf 4) (waiting n last) a b c d e)
+ends : (n last : ℕ) (a : Status) (b : Latches) (c : Stack) (k : Bool) (d e : ℕ) → Ends (made (linesOf 4) (waiting n last) a b c k d e)
 unfolding follows
-ends n last a b c d e = record { code = refl; calmly = refl; low = lit< tt; middle = lit< tt; high = lit< tt }
+ends n last a b c k d e = record { code = refl; calmly = refl; low = lit< tt; middle = lit< tt; high = lit< tt }
 
 is-cut : says isCut (decode cutRecord) ≡ true
 unfolding follows

@@ -126,6 +126,7 @@ pub fn power_reset() -> Chip
         status: status,
         latches: latches,
         stack: stack,
+        keptbad: false,
         quiet: 0,
         identity: 0,
     }

@@ -289,7 +289,32 @@ impl Maker {
                 self.write(SXFRCTL1, value);
                 self.read(SSTAT1);
             }
+            if self.random.percent(25) {
+                self.parity_kept(phase);
+            }
         }
+    }
+
+    /// What the kept parity must outlast, or must not take: an enable that
+    /// moves, bytes outbound or unconnected, resets, bus free; then a clear.
+    fn parity_kept(&mut self, phase: u8) {
+        let data = data_lines(self.random.byte(), self.random.percent(50));
+        match self.random.below(6) {
+            0 => self.write(SIMODE1, 0),
+            1 => self.write(SIMODE1, SCSIPERR),
+            2 => self.drive(data | u32::from(phase | REQ)),
+            3 => self.drive(data | u32::from(phase & !IO | BSY | REQ)),
+            4 => {
+                self.drive(RST_LINE | data | u32::from(phase | BSY | REQ));
+                self.drive(data | u32::from(phase | BSY | REQ));
+            }
+            _ => {
+                self.drive_control(0);
+                self.ticks(8);
+            }
+        }
+        self.write(SSTAT1, SCSIPERR);
+        self.read(SSTAT1);
     }
 
     /// SEL and BSY by others and by 343h, with IDs on the data lines.

@@ -5,6 +5,10 @@ use borrow.Author.Tests.{eqb-true}
 use Rattle.rules.proofs.Logic.{left-true, right-true}
 use Rattle.image.specs.Image.{imageOf, stateAt}
 use Rattle.edges.specs.From.{edgesFrom, appliedFrom}
+use Rattle.rules.specs.State.{State}
+use Rattle.edges.specs.ParityKept.{keptFrom}
+use Rattle.edges.specs.declared.edges.Edges.{Edges}
+use Rattle.edges.proofs.ParityKept.{kept-back, kept-image, kept-edges}
 use Rattle.edges.proofs.InOrder.{since, beyond-since}
 use Rattle.edges.proofs.Still.{same-bytes, seen-beyond, seen-quieted, seen-unchanged}
 use Rattle.edges.proofs.since.edges_since.Statement.{statement}
@@ -38,17 +42,30 @@ returns-2 c =
     let s = stateAt m in
     (seen-beyond m (start .pre) x e t ∙ beyond-since x ticks s, seen-unchanged m (start .pre) x e t (sym (looked .busy .ensures) ∙ c .if2 .left) ∙ ap imageOf (since x ticks s))
 
+edges-in-requires : tie.Need-edges-in-requires
+edges-in-requires c κs =
+    let kept = c .before in
+    let read = kept .before .before in
+    let start = read .before .before .before .before in
+    kept-image (start .args .m .now) (start .pre) (read .before-of .result .req) (kept .kept-in .ensures)
+
 returns-3 : tie.Need-returns-3
 returns-3 c =
-    let read = c .before .before in
+    let kept = c .before .before in
+    let read = kept .before .before in
     let start = read .before .before .before .before in
-    let s = stateAt (start .args .m .now) in
+    let m = start .args .m .now in
+    let s = stateAt m in
     let n = start .args .ticks in
     let x = start .args .x in
     let w = read .before-of .ensures in
-    (c .edges-in .ensures .0 ∙ (λ i. (edgesFrom (w .0 i) (w .1 .0 i) s n) .beyond) ∙ beyond-since x n s, c .edges-in .ensures .1 ∙ (λ i. imageOf (appliedFrom (edgesFrom (w .0 i) (w .1 .0 i) s n) (w .1 .1 i) s)) ∙ ap imageOf (since x n s))
+    let b = read .before-of .result in
+    let back = kept-back m (start .pre) (b .req) (kept .kept-in .ensures) in
+    let found = ap (λ (t : State). edgesFrom (b .rst) (b .req) t n) back ∙ kept-edges (b .req) (b .rst) (b .req) s n in
+    (c .edges-in .ensures .0 ∙ ap (λ (g : Edges). g .beyond) found ∙ (λ i. (edgesFrom (w .0 i) (w .1 .0 i) s n) .beyond) ∙ beyond-since x n s,
+    c .edges-in .ensures .1 ∙ (λ i. imageOf (appliedFrom (found i) (b .mismatched) (back i))) ∙ (λ i. imageOf (appliedFrom (edgesFrom (w .0 i) (w .1 .0 i) s n) (w .1 .1 i) (keptFrom (w .1 .0 i) s))) ∙ ap imageOf (since x n s))
 
 pub edges-since-spec : {M : Type 1} → statement M
 edges-since-spec =
     tie.close
-    (tie.spec (λ c κs. search needs) (λ c κs. search needs) (λ c. search needs) returns returns-2 (λ c κs. search needs) (λ c κs. search needs) returns-3)
+    (tie.spec (λ c κs. search needs) (λ c κs. search needs) (λ c. search needs) returns returns-2 (λ c κs. search needs) (λ c κs. search needs) edges-in-requires returns-3)

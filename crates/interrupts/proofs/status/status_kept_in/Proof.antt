@@ -1,7 +1,8 @@
 use borrow.Author.Needs.{needs}
+use Rattle.image.specs.Image.{stateAt}
 use Rattle.image.proofs.AtPlaces.{status-at}
 use Rattle.interrupts.proofs.StatusAndLatchBytes.{status-left}
-use Rattle.interrupts.proofs.Idle.{status-idle}
+use Rattle.interrupts.proofs.Idle.{status-idle, kept-unasked}
 use Rattle.interrupts.proofs.status.status_kept_in.Statement.{statement}
 use Rattle.interrupts.proofs.status.status_kept_in.Tie as tie
 
@@ -12,7 +13,7 @@ returns c =
     let start = checked .before .before in
     let a = start .args in
     let m = a .m .now in
-    status-left m (start .pre) _ (status-idle (a .accessed) (a .acked) (checked .enspchk .ensures) (looked .scsiperr .ensures) (c .if1 .taken))
+    status-left m (start .pre) _ (status-idle (a .accessed) (a .acked) ((stateAt m) .keptbad) (checked .enspchk .ensures) (looked .scsiperr .ensures) (c .if1 .taken))
 
 returns-2 : tie.Need-returns-2
 returns-2 c =
@@ -20,7 +21,7 @@ returns-2 c =
     let unpacked = kept .before in
     let checked = unpacked .before .before .before .before .before in
     let m = checked .before .before .args .m .now in
-    rw (status-at m, ← checked .enspchk .ensures, ← unpacked .status-of .ensures, ← kept .status-kept .ensures) (c .status-put .ensures)
+    rw (kept-unasked, status-at m, ← checked .enspchk .ensures, ← unpacked .status-of .ensures, ← kept .status-kept .ensures) (c .status-put .ensures)
 
 pub status-kept-in-spec : {M : Type 1} → statement M
 status-kept-in-spec =
