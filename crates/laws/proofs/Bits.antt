@@ -2,7 +2,7 @@
 use mathlib.Core.Path.{_≡_, refl, ap, _∙_}
 use mathlib.Core.Bool.{Bool, true, false}
 use Prim.Native.Nat.{ℕ, zero, suc, _+_, _*_, _/_, _%_, _^_, _-_, _≤_, _<_}
-use native.Mathlib.Nat.{mod-eq-of-lt, div-eq-of-lt, lt-of-lt-of-le, lt-of-le-of-lt, div-one, div-mul-le-self, one-mul, suc-mul, mul-le-mul-right, mod-lt, add-comm, div-div-eq-div-mul, pow-succ', add-zero, zero-add, add-assoc}
+use native.Mathlib.Nat.{mod-eq-of-lt, div-eq-of-lt, lt-of-lt-of-le, lt-of-le-of-lt, div-mul-le-self, one-mul, suc-mul, mul-le-mul-right, mod-lt, add-comm, add-assoc}
 use native.Mathlib.Omega.{arith}
 use lib.Pow.{pow-pos, pow-mono, pow-add, shl-lt, shl-exact}
 use lib.Dec.{eqb}
@@ -75,11 +75,6 @@ one-of false = refl
 pub one-le : (b : Bool) → boolByte b ≤ 1
 one-le true = omega arith
 one-le false = omega arith
-
--- one bit more
-pub ones-next : (n v : ℕ) → onesIn n v + v / 2 ^ n % 2 ≡ onesIn (suc n) v
-ones-next zero v = simp (div-one, zero-add, add-zero)
-ones-next (suc n) v = rw (add-assoc, pow-succ', ← (div-div-eq-div-mul v 2 (2 ^ n)), ones-next n (v / 2))
 
 -- no more ones than bits
 pub ones-le : (n v : ℕ) → onesIn n v ≤ n
