@@ -11,5 +11,6 @@ pub mod Beliefs
 pub mod Effects
 pub mod Counting
 pub mod KeptParity
+pub mod TickByTick
 pub mod Witnesses
 pub mod Packing

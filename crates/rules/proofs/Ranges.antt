@@ -708,7 +708,7 @@ after-a-fits s e f d i = after-a s e f (port-room s e d) i
 pub after-b-fits : (s : State) (e : Event) → EventFits e → isDone (accessCode s e) ≡ true → InRange s → InRange (afterB s e)
 after-b-fits s e f d i = after-b s e (after-a-fits s e f d i)
 
-done-fits : (s : State) (e : Event) → EventFits e → isDone (accessCode s e) ≡ true → InRange s → StepFits (done s e)
+pub done-fits : (s : State) (e : Event) → EventFits e → isDone (accessCode s e) ≡ true → InRange s → StepFits (done s e)
 unfolding done
 done-fits s e f d i =
     let b = after-b-fits s e f d i in

@@ -66,10 +66,10 @@ latch-still false true true = refl
 latch-still false true false = refl
 latch-still false false status = refl
 
--- A of no ticks
-status-still : (enspchk kept : Bool) (t : Status) → (enspchk ≡ false → t .scsiperr ≡ false) → statusA false false enspchk kept t (Ticks 0) ≡ t
+-- A of ticks
+status-still : (enspchk kept : Bool) (t : Status) (n : ℕ) → (enspchk ≡ false → t .scsiperr ≡ false) → statusA false false enspchk kept t (Ticks n) ≡ t
 unfolding statusA errorA clears clearsError writes
-status-still enspchk kept t h =
+status-still enspchk kept t n h =
     λ i.
     record {
       spiordy = t .spiordy;
@@ -82,15 +82,15 @@ status-still enspchk kept t h =
       fwerr = t .fwerr;
     }
 
-after-a-still : (s : State) → AtRest s → afterA s (Ticks 0) ≡ s
+pub after-a-still : (s : State) (n : ℕ) → AtRest s → afterA s (Ticks n) ≡ s
 unfolding afterA linesAfter registersA transferA hostA counterA latchesA stackA identityA automaticAck latchAccess clrstcnt clrch rstfifo clears clearsLatch clearsError writes reads valueOf asked portWrite
-after-a-still s r =
+after-a-still s n r =
     λ i.
     record {
       lines = s .lines;
       registers = s .registers;
       transfer = s .transfer;
-      status = status-still (s .registers .sxfrctl1 .enspchk) (s .keptbad) (s .status) (r .scsiperr) i;
+      status = status-still (s .registers .sxfrctl1 .enspchk) (s .keptbad) (s .status) n (r .scsiperr) i;
       latches = s .latches;
       stack = s .stack;
       keptbad = s .keptbad;
@@ -103,7 +103,7 @@ no-fall : (s : State) → reqFalls s s ≡ false
 unfolding reqFalls
 no-fall s = and-not-self (reqSeen s)
 
-falls-still : (s : State) → afterReqFalls s s ≡ s
+pub falls-still : (s : State) → afterReqFalls s s ≡ s
 unfolding afterReqFalls
 falls-still s = rw (no-fall s)
 
@@ -111,7 +111,7 @@ no-reset : (s : State) → rstRises s s ≡ false
 unfolding rstRises
 no-reset s = and-not-self (rstSeen s)
 
-reset-still : (s : State) → afterRstRises s s ≡ s
+pub reset-still : (s : State) → afterRstRises s s ≡ s
 unfolding afterRstRises
 reset-still s = rw (no-reset s)
 
@@ -123,7 +123,7 @@ no-rise s = go (reqSeen s) (not (rstSeen s))
     go true n = refl
     go false n = refl
 
-rises-still : (s : State) → afterReqRises s s ≡ s
+pub rises-still : (s : State) → afterReqRises s s ≡ s
 unfolding afterReqRises
 rises-still s = rw (no-rise s)
 
@@ -155,11 +155,11 @@ module _ (s : State) (r : AtRest s) (h : s .quiet ≤ 8) where
   after-b-still : afterB s (Ticks 0) ≡ s
   unfolding afterB ticksOf inOrder
   after-b-still =
-      ap (λ (a : State). inOrder s 0 a) (after-a-still s r)
+      ap (λ (a : State). inOrder s 0 a) (after-a-still s 0 r)
       ∙ simp (falls-still s, reset-still s, rises-still s, ticks-still, phase-still s)
 
 -- C of no ticks
-settled-still : (s : State) → AtRest s → s .quiet ≤ 8 → settledC s (Ticks 0) ≡ started s
+pub settled-still : (s : State) → AtRest s → s .quiet ≤ 8 → settledC s (Ticks 0) ≡ started s
 unfolding settledC started
 settled-still s r h =
     ap (λ (b : State). settle (conditions b) turns (started b)) (after-b-still s r h) ∙ settle-rests (conditions s) turns (started s) (r .resting)
@@ -212,7 +212,7 @@ latches-still r t k =
       reqinit = latch-still (k .reqinit) (r .simode1 .enreqinit) (t .reqinit) i;
     }
 
-finished-still : (s : State) → AtRest s → finished s s s (started s) ≡ s
+pub finished-still : (s : State) → AtRest s → finished s s s (started s) ≡ s
 unfolding finished started
 finished-still s r =
     λ i.
@@ -237,9 +237,9 @@ finished-still s r =
     latches : latchesD (s .registers) (s .registers) (s .status) (statusRaised s) (s .latches) ≡ s .latches
     latches = ap (λ (t : Status). latchesD (s .registers) (s .registers) (s .status) t (s .latches)) (raised-still s r) ∙ latches-still (s .registers) (s .status) (s .latches)
 
-after-d-still : (s : State) → AtRest s → s .quiet ≤ 8 → afterD s (Ticks 0) ≡ s
+pub after-d-still : (s : State) → AtRest s → s .quiet ≤ 8 → afterD s (Ticks 0) ≡ s
 unfolding afterD
-after-d-still s r h = rw (after-a-still s r, after-b-still s r h, settled-still s r h) (finished-still s r)
+after-d-still s r h = rw (after-a-still s 0 r, after-b-still s r h, settled-still s r h) (finished-still s r)
 
 -- the record of 0 ticks
 abbrev pub zeroTicks : List ℕ
@@ -249,9 +249,9 @@ zeroTicks = 0xC0 ∷ 0 ∷ 0 ∷ 0 ∷ []
 abbrev pub nothing : State → Stepped
 nothing s = record { state = s; code = Done; value = 0; moves = 0; acks = 0; sent = [] }
 
-ticks-done : (s : State) → length (s .transfer .host) ≤ 128 → accessCode s (Ticks 0) ≡ Done
+pub ticks-done : (s : State) (n : ℕ) → length (s .transfer .host) ≤ 128 → accessCode s (Ticks n) ≡ Done
 unfolding accessCode absent testValue shut noRoom noBytes writes offered asked portWrite portRead
-ticks-done s h = rw (le-ltb 128 (length (s .transfer .host) + 0) (omega arith), le-ltb (length (s .transfer .host)) 0 (omega arith))
+ticks-done s n h = rw (le-ltb 128 (length (s .transfer .host) + 0) (omega arith), le-ltb (length (s .transfer .host)) 0 (omega arith))
 
 ticks-beyond : (s : State) → beyond s (atReq s (Ticks 0)) ≡ false
 unfolding linesAfter
@@ -273,7 +273,7 @@ done-still s r h =
 -- AT REST, AN EVENT OF 0 TICKS CHANGES NOTHING and reports nothing
 pub zero-ticks-at-rest : (s : State) → AtRest s → InRange s → step s zeroTicks ≡ nothing s
 unfolding step decode fieldsOf wellFormed stepDecoded stepEvent access
-zero-ticks-at-rest s r i = rw (ticks-done s (i .transfer .host)) (done-still s r (i .quiet))
+zero-ticks-at-rest s r i = rw (ticks-done s 0 (i .transfer .host)) (done-still s r (i .quiet))
 
 -- POWER RESET IS AT REST
 pub power-reset-rests : AtRest powerReset
@@ -379,7 +379,7 @@ unfolding bsySeen selSeen
 quiet-rests s e = ticks-leave Hushed hushed-keeps s e busy-counts
 
 -- EVERY EVENT THAT IS DONE LEAVES THE CHIP AT REST
-done-rests : (s : State) (e : Event) → InRange (afterB s e) → AtRest (afterD s e)
+pub done-rests : (s : State) (e : Event) → InRange (afterB s e) → AtRest (afterD s e)
 unfolding afterD finished statusD statusRaised pioReady ackSeen ackDriven matched connected rstSeen selSeen bsySeen
 done-rests s e b =
     let r = (afterB s e) .registers in

@@ -18,6 +18,7 @@ pub mod StepC
 pub mod StepD
 pub mod Answers
 pub mod Step
+pub mod SingleTicks
 pub mod Chips
 pub mod Ranges
 pub mod Examples
