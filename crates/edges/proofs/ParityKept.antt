@@ -18,7 +18,7 @@ use Rattle.edges.specs.Components.{registersB}
 use Rattle.edges.specs.From.{rstRisesFrom, reqRisesFrom, synchronousReqFrom, quietFrom, edgesFrom}
 use Rattle.edges.specs.ParityKept.{errorOr, keptOf, keptFrom}
 use Rattle.edges.specs.Stored.{latchesStored}
-use Rattle.edges.specs.Tests.{inboundEven}
+use Rattle.edges.specs.Tests.{inboundEven, inboundBad}
 use Rattle.edges.specs.declared.edges.Edges.{Edges}
 use Rattle.edges.proofs.Laws.{inbound-even}
 use Rattle.rules.proofs.Logic.{right-true}
@@ -37,6 +37,16 @@ module _ (was : Bool) (s : State) where
   unfolding keptFrom keptAfter errorLatched parityBad
   kept-inside e f g h =
       rw (h, g ∙ sym (inbound-even s (right-true (connected s) (ioSeen s) f)), e, f)
+
+  -- and the error that is told
+  pub bad-none : reqRisesFrom was s ≡ false → false ≡ (reqRisesFrom was s && inboundBad s)
+  bad-none e = rw e
+
+  pub bad-outside : reqRisesFrom was s ≡ true → (connected s && ioSeen s) ≡ false → false ≡ (reqRisesFrom was s && inboundBad s)
+  bad-outside e f = rw (e, f)
+
+  pub bad-inside : {bad check : Bool} → reqRisesFrom was s ≡ true → (connected s && ioSeen s) ≡ true → bad ≡ inboundEven s → check ≡ s .registers .sxfrctl1 .enspchk → (check && bad) ≡ (reqRisesFrom was s && inboundBad s)
+  bad-inside e f g h = rw (e, f, g, h)
 
 -- in the bytes of an array
 pub kept-placed : (m : List ℕ) (bad : Bool) (s : State) → m ≡ imageOf s → set m keptPlace (one bad) ≡ imageOf (withKept bad s)
@@ -90,5 +100,14 @@ unfolding keptFrom edgesFrom rstRisesFrom reqRisesFrom synchronousReqFrom quietF
 kept-edges was rst req s ticks = go (reqRisesFrom was s)
   where
     go : (b : Bool) → edgesFrom rst req (cond b (keptOf s) s) ticks ≡ edgesFrom rst req s ticks
+    go true = refl
+    go false = refl
+
+-- nor does the error
+pub kept-bad : (was req : Bool) (s : State) → (reqRisesFrom req s && inboundBad s) ≡ (reqRisesFrom req (keptFrom was s) && inboundBad (keptFrom was s))
+unfolding keptFrom reqRisesFrom connected rstSeen bsySeen selSeen
+kept-bad was req s = go (reqRisesFrom was s)
+  where
+    go : (b : Bool) → (reqRisesFrom req s && inboundBad s) ≡ (reqRisesFrom req (cond b (keptOf s) s) && inboundBad (cond b (keptOf s) s))
     go true = refl
     go false = refl

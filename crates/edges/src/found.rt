@@ -73,17 +73,6 @@ pub fn parity_bad(m: &Image, rises: bool) -> bool
     if rises { inbound_bad(m) } else { false }
 }
 
-// A parity error at a REQ that rises, where it is not yet known whether it does.
-pub fn checked_bad(m: &Image, was: bool) -> bool
-    ensures { λ b. ⌜ b ≡ (reqRisesFrom was (stateAt (now (m .entry))) && inboundBad (stateAt (now (m .entry)))) ⌝ }
-{
-    if enspchk(m) {
-        parity_bad(m, req_rises(m, was))
-    } else {
-        false
-    }
-}
-
 // "If matched, path and synchronous"
 pub fn synchronous_req(m: &Image, rises: bool) -> bool
     ensures { λ b. ⌜ b ≡ (rises && matched (stateAt (now (m .entry))) && path ((stateAt (now (m .entry))) .registers) && synchronous (stateAt (now (m .entry)))) ⌝ }

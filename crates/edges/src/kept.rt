@@ -5,7 +5,8 @@ ghost use Rattle.rules.specs.Seen.{ioSeen, connected};
 ghost use Rattle.image.specs.Image.{imageOf, stateAt};
 ghost use Rattle.edges.specs.ParityKept.{keptFrom};
 ghost use Rattle.edges.specs.Stored.{latchesStored};
-ghost use Rattle.edges.specs.Tests.{inboundEven};
+ghost use Rattle.edges.specs.From.{reqRisesFrom};
+ghost use Rattle.edges.specs.Tests.{inboundEven, inboundBad};
 use crate::found::req_rises;
 use image::bits::enscsiperr;
 use image::bits::enspchk;
@@ -44,20 +45,24 @@ fn latched_in(m: &mut Image)
     m[LATCHES] = v;
 }
 
-pub fn kept_in(m: &mut Image, was: bool)
+// Whether there is an error is told, so that it is judged once.
+pub fn kept_in(m: &mut Image, was: bool) -> bool
     requires { ⌜ now m ≡ imageOf (stateAt (now m)) ⌝ }
+    ensures { λ b. ⌜ b ≡ (reqRisesFrom was (stateAt (now (m .entry))) && inboundBad (stateAt (now (m .entry)))) ⌝ }
     ensures { λ _. ⌜ now (m .exit) ≡ imageOf (keptFrom was (stateAt (now (m .entry)))) ⌝ }
 {
     if !req_rises(m, was) {
-        return;
+        return false;
     }
     if !inbound(m) {
-        return;
+        return false;
     }
     let bad = is_bad(m);
-    let error = enspchk(m) & bad & enscsiperr(m);
+    let error = enspchk(m) & bad;
+    let latches = error & enscsiperr(m);
     m[KEPT_PARITY] = bad as u8;
-    if error {
+    if latches {
         latched_in(m);
     }
+    error
 }

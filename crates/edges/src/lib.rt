@@ -2,7 +2,9 @@
 ghost use mathlib.Core.Path.{_≡_};
 ghost use Rattle.rules.specs.Seen.{rstSeen, reqSeen, mismatched};
 ghost use Rattle.image.specs.Image.{imageOf, stateAt, IsImage};
-ghost use Rattle.edges.specs.From.{edgesFrom, appliedFrom};
+ghost use mathlib.Core.Bool.{_&&_};
+ghost use Rattle.edges.specs.From.{reqRisesFrom, edgesFrom, appliedFrom};
+ghost use Rattle.edges.specs.Tests.{inboundBad};
 ghost use Rattle.edges.specs.Room.{Room};
 use crate::edges::Edges;
 use crate::last::Before;
@@ -85,9 +87,11 @@ fn all_in(m: &mut Image, was: Before, ticks: u32) -> bool
     g.beyond
 }
 
-// B on an image: the edges found and applied, the frequent ones by themselves; whether a REQ went beyond the limit.
-fn edges_in(m: &mut Image, was: Before, ticks: u32) -> bool
+// B on an image: the edges found and applied, the frequent ones by themselves; whether a REQ went beyond the limit. bad tells
+// of a parity error at a REQ that rises.
+fn edges_in(m: &mut Image, was: Before, bad: bool, ticks: u32) -> bool
     requires { ⌜ IsImage (now m) ⌝ }
+    requires { ⌜ bad ≡ (reqRisesFrom (was .req) (stateAt (now m)) && inboundBad (stateAt (now m))) ⌝ }
     ensures { λ b. ⌜ b ≡ (edgesFrom (was .rst) (was .req) (stateAt (now (m .entry))) ticks) .beyond ⌝ }
     ensures { λ _. ⌜ now (m .exit) ≡ imageOf (appliedFrom (edgesFrom (was .rst) (was .req) (stateAt (now (m .entry))) ticks) (was .mismatched) (stateAt (now (m .entry)))) ⌝ }
 {
@@ -98,7 +102,7 @@ fn edges_in(m: &mut Image, was: Before, ticks: u32) -> bool
     if (8 <= quiet) & !(8 <= m[QUIET]) {
         return all_in(m, was, ticks);
     }
-    if found::checked_bad(m, was.req) {
+    if bad {
         return all_in(m, was, ticks);
     }
     m[QUIET] = quiet;

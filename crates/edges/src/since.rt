@@ -68,6 +68,6 @@ pub fn edges_since(m: &mut Image, x: Seen, ticks: u32) -> bool
         return false;
     }
     let was = before_of(x);
-    kept_in(m, was.req);
-    edges_in(m, was, ticks)
+    let bad = kept_in(m, was.req);
+    edges_in(m, was, bad, ticks)
 }
