@@ -59,14 +59,17 @@ fn carried(m: &mut Image, direction: Direction) -> bool
     ensures { λ passed. ⌜ passed ≡ counterPasses direction (stateAt (now (m .entry))) ⌝ }
     ensures { λ _. ⌜ now (m .exit) ≡ imageOf (counterStepped direction (stateAt (now (m .entry)))) ⌝ }
 {
-    let counted = counter_step(direction, joined(m[COUNTER_LOW], m[COUNTER_MIDDLE], m[COUNTER_HIGH]));
-    let low = counter_byte(0, counted.value);
-    let middle = counter_byte(1, counted.value);
-    let high = counter_byte(2, counted.value);
+    let stepped = counter_step(
+        direction,
+        joined(m[COUNTER_LOW], m[COUNTER_MIDDLE], m[COUNTER_HIGH]),
+    );
+    let low = counter_byte(0, stepped.value);
+    let middle = counter_byte(1, stepped.value);
+    let high = counter_byte(2, stepped.value);
     m[COUNTER_LOW] = low;
     m[COUNTER_MIDDLE] = middle;
     m[COUNTER_HIGH] = high;
-    counted.passed
+    stepped.passed
 }
 
 // Most often the low byte alone changes, and the end is not passed.

@@ -37,7 +37,11 @@ fn status_put(m: &mut Image, t: Status)
 fn error_written(enspchk: bool, kept: bool, error: bool, cleared: bool) -> bool
     ensures { λ b. ⌜ b ≡ (enspchk && cond cleared kept error) ⌝ }
 {
-    if cleared { enspchk & kept } else { enspchk & error }
+    if cleared {
+        enspchk & kept
+    } else {
+        enspchk & error
+    }
 }
 
 // "A write to 34Ch clears the named status bits and latches"; "34Fh clears errors."
