@@ -3,12 +3,13 @@ use Prim.Native.Nat.{ℕ}
 use mathlib.Core.Path.{_≡_, refl, ap, sym, _∙_}
 use mathlib.Core.Bool.{Bool, true, false, cond}
 use mathlib.Core.List.{List, [], _++_, append-nil}
+use lib.Dec.{ltb}
 use Rattle.rules.specs.State.{State}
 use Rattle.rules.specs.Changed.{withQuiet}
 use Rattle.rules.specs.Seen.{rstSeen}
 use Rattle.rules.specs.Events.{ticksOf}
 use Rattle.rules.specs.StepA.{afterA}
-use Rattle.rules.specs.StepB.{reqFalls, ackReleased, afterReqFalls, rstRises, busReset, afterRstRises, reqRises, storedByte, reqRisen, afterReqRises, quietAfter, busFree, busFreed, afterQuietTicks, phaseChanges, phaseChanged, afterPhaseChanges, inOrder, afterB, atReq}
+use Rattle.rules.specs.StepB.{reqFalls, ackReleased, afterReqFalls, rstRises, busReset, afterRstRises, reqRises, storedByte, reqRisen, afterReqRises, quietAfter, busFree, busFreed, afterQuietTicks, phaseChanges, phaseChanged, afterPhaseChanges, afterSequencer, firstFour, inOrder, afterB, atReq}
 use Rattle.rules.specs.declared.registers.Dmacntrl0.{Dmacntrl0}
 use Rattle.rules.specs.declared.records.Lines.{Lines}
 use Rattle.rules.specs.declared.records.Event.{Event}
@@ -45,6 +46,7 @@ pub record Spares (P : State → Type 0) : Type 0 where
   pub reset : (n : State) → P n → P (busReset n)
   pub ticked : (n : State) (ticks : ℕ) → P n → P (withQuiet (quietAfter ticks n) n)
   pub freed : (n : State) → P n → P (busFreed n)
+  pub sequenced : (n : State) (tick : Bool) (before : ℕ) → P n → P (afterSequencer tick before n)
   pub changed : (n : State) → P n → P (phaseChanged n)
 
 module _ (P : State → Type 0) (k : Spares P) (s : State) (e : Event) where
@@ -57,6 +59,9 @@ module _ (P : State → Type 0) (k : Spares P) (s : State) (e : Event) where
   ticks : (n : State) → P n → P (afterQuietTicks (ticksOf e) n)
   ticks n p = ticks-make P (k .freed) (ticksOf e) n (k .ticked n (ticksOf e) p)
 
+  sequences : (n : State) → P n → P (afterSequencer (ltb 0 (ticksOf e)) (s .quiet) n)
+  sequences n p = k .sequenced n (ltb 0 (ticksOf e)) (s .quiet) p
+
   phase : (n : State) → P n → P (afterPhaseChanges s n)
   phase n p = phase-keeps P s n p (k .changed n)
 
@@ -65,8 +70,8 @@ module _ (P : State → Type 0) (k : Spares P) (s : State) (e : Event) where
   before-req p = search (falls, resets, ticks, phase) depth 7
 
   pub after-req : P (afterReqRises s (atReq s e)) → P (afterB s e)
-  unfolding atReq afterB inOrder
-  after-req p = search (falls, resets, ticks, phase) depth 7
+  unfolding atReq afterB inOrder firstFour
+  after-req p = search (falls, resets, ticks, sequences, phase) depth 8
 
 -- what every step keeps
 pub record Keeps (P : State → Type 0) : Type 0 where
@@ -75,11 +80,20 @@ pub record Keeps (P : State → Type 0) : Type 0 where
   pub risen : (n : State) → P n → P (reqRisen n)
   pub ticked : (n : State) (ticks : ℕ) → P n → P (withQuiet (quietAfter ticks n) n)
   pub freed : (n : State) → P n → P (busFreed n)
+  pub sequenced : (n : State) (tick : Bool) (before : ℕ) → P n → P (afterSequencer tick before n)
   pub changed : (n : State) → P n → P (phaseChanged n)
 
 module _ (P : State → Type 0) (k : Keeps P) where
   spares : Spares P
-  spares = record { released = k .released; reset = k .reset; ticked = k .ticked; freed = k .freed; changed = k .changed }
+  spares =
+      record {
+        released = k .released;
+        reset = k .reset;
+        ticked = k .ticked;
+        freed = k .freed;
+        sequenced = k .sequenced;
+        changed = k .changed;
+      }
 
   module _ (s : State) (e : Event) where
     rises : (n : State) → P n → P (afterReqRises s n)
@@ -91,21 +105,23 @@ module _ (P : State → Type 0) (k : Keeps P) where
 
     -- what the count of the quiet ticks makes so
     pub ticks-leave : ((ticks : ℕ) (n : State) → P (withQuiet (quietAfter ticks n) n)) → P (afterB s e)
-    unfolding afterB inOrder
-    ticks-leave made = search (ticked, falls P spares s e, resets P spares s e, rises, phase P spares s e) depth 7
+    unfolding afterB inOrder firstFour
+    ticks-leave made =
+        search (ticked, falls P spares s e, resets P spares s e, rises, sequences P spares s e, phase P spares s e) depth 8
       where
         ticked : (n : State) → P (afterQuietTicks (ticksOf e) n)
         ticked n = ticks-make P (k .freed) (ticksOf e) n (made (ticksOf e) n)
 
 -- RST, once it is seen to rise, is so to the end of B
 rising : (s : State) → Spares (λ n. rstRises s n ≡ true)
-unfolding rstRises rstSeen ackReleased busReset busFreed phaseChanged
+unfolding rstRises rstSeen ackReleased busReset busFreed afterSequencer phaseChanged
 rising s =
     record {
       released = λ n h. h;
       reset = λ n h. h;
       ticked = λ n ticks h. h;
       freed = λ n h. h;
+      sequenced = λ n tick before h. h;
       changed = λ n h. h;
     }
 
@@ -149,7 +165,7 @@ apartOf s =
     }
 
 apart : (a : Apart) → Keeps (λ n. apartOf n ≡ a)
-unfolding ackReleased busReset reqRisen busFreed phaseChanged
+unfolding ackReleased busReset reqRisen busFreed afterSequencer phaseChanged
 apart a =
     record {
       released = λ n h. h;
@@ -157,12 +173,13 @@ apart a =
       risen = λ n h. h;
       ticked = λ n ticks h. h;
       freed = λ n h. h;
+      sequenced = λ n tick before h. h;
       changed = λ n h. h;
     }
 
 -- bits that are cleared and never set
 scsien-off : Keeps (λ n. n .registers .sxfrctl0 .scsien ≡ false)
-unfolding ackReleased busReset reqRisen busFreed phaseChanged
+unfolding ackReleased busReset reqRisen busFreed afterSequencer phaseChanged
 scsien-off =
     record {
       released = λ n h. h;
@@ -170,11 +187,12 @@ scsien-off =
       risen = λ n h. h;
       ticked = λ n ticks h. h;
       freed = λ n h. h;
+      sequenced = λ n tick before h. h;
       changed = λ n h. h;
     }
 
 acko-off : Keeps (λ n. n .registers .scsisig .acko ≡ false)
-unfolding ackReleased busReset reqRisen busFreed phaseChanged
+unfolding ackReleased busReset reqRisen busFreed afterSequencer phaseChanged
 acko-off =
     record {
       released = λ n h. h;
@@ -182,11 +200,12 @@ acko-off =
       risen = λ n h. h;
       ticked = λ n ticks h. h;
       freed = λ n h. refl;
+      sequenced = λ n tick before h. h;
       changed = λ n h. h;
     }
 
 pub ioexp-off : Keeps (λ n. n .registers .scsisig .ioexp ≡ false)
-unfolding ackReleased busReset reqRisen busFreed phaseChanged
+unfolding ackReleased busReset reqRisen busFreed afterSequencer phaseChanged
 ioexp-off =
     record {
       released = λ n h. h;
@@ -194,6 +213,7 @@ ioexp-off =
       risen = λ n h. h;
       ticked = λ n ticks h. h;
       freed = λ n h. refl;
+      sequenced = λ n tick before h. h;
       changed = λ n h. h;
     }
 
@@ -202,13 +222,14 @@ abbrev Holding : List ℕ → State → Type 0
 Holding l n = n .transfer .scsi ≡ l
 
 holding : (l : List ℕ) → Spares (Holding l)
-unfolding ackReleased busReset busFreed phaseChanged
+unfolding ackReleased busReset busFreed afterSequencer phaseChanged
 holding l =
     record {
       released = λ n h. h;
       reset = λ n h. h;
       ticked = λ n ticks h. h;
       freed = λ n h. h;
+      sequenced = λ n tick before h. h;
       changed = λ n h. h;
     }
 

@@ -6,7 +6,7 @@ use Rattle.rules.specs.Examples.{Row, row, misses}
 use Rattle.rules.specs.State.{State, powerReset}
 use Rattle.rules.specs.Seen.{ioSeen, connected, parityEven}
 use Rattle.rules.specs.StepA.{clears, registersA, errorA, statusA, latchesA, afterA}
-use Rattle.rules.specs.StepB.{ackReleased, busReset, reqRises, parityBad, keptAfter, errorLatched, reqRisen, afterReqRises, busFreed, phaseChanged, afterB, atReq}
+use Rattle.rules.specs.StepB.{ackReleased, busReset, reqRises, parityBad, keptAfter, errorLatched, reqRisen, afterReqRises, busFreed, afterSequencer, phaseChanged, afterB, atReq}
 use Rattle.rules.specs.StepD.{statusRaised, statusD, latchesD, finished, afterD}
 use Rattle.rules.specs.declared.records.Event.{Event}
 use Rattle.rules.proofs.Computes.{computes}
@@ -30,13 +30,14 @@ parityOf n =
 
 -- no step of B touches it but "REQ rises"
 spared : (c : Parity) → Spares (λ n. parityOf n ≡ c)
-unfolding ackReleased busReset busFreed phaseChanged
+unfolding ackReleased busReset busFreed afterSequencer phaseChanged
 spared c =
     record {
       released = λ n h. h;
       reset = λ n h. h;
       ticked = λ n ticks h. h;
       freed = λ n h. h;
+      sequenced = λ n tick before h. h;
       changed = λ n h. h;
     }
 

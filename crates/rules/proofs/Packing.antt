@@ -8,10 +8,12 @@ use lib.ListN.{length, take}
 use lib.Seq.{take-append-seam}
 use Rattle.rules.specs.Numbers.{padded}
 use Rattle.rules.specs.State.{State, Transfer}
-use Rattle.rules.specs.Chips.{pathView, pathOf, registersView, stackView, view, chipOf}
+use Rattle.rules.specs.Chips.{pathView, pathOf, registersView, stackView, sequencerView, view, chipOf}
 use Rattle.rules.specs.Ranges.{TransferFits, RegistersFit, StackFits, InRange}
 use Rattle.rules.specs.declared.registers.Registers.{Registers}
 use Rattle.rules.specs.declared.chip.Stack.{Stack}
+use Rattle.rules.specs.declared.chip.Sequencer.{Sequencer}
+use Rattle.rules.specs.Counter.{counterSize}
 
 smaller : (n : ℕ) → n ≤ 8 → min 8 n ≡ n
 smaller n h = omega arith
@@ -42,6 +44,10 @@ pub stack-read-back : (k : Stack) → StackFits k → stackView k ≡ k
 unfolding stackView
 stack-read-back k f = rw (mod-eq-of-lt (f .pointer))
 
+pub sequencer-read-back : (q : Sequencer) → q .ticks < counterSize → sequencerView q ≡ q
+unfolding sequencerView
+sequencer-read-back q f = rw (mod-eq-of-lt f)
+
 -- one chip for one state: it reads back as that state
 pub read-back : (s : State) → InRange s → view (chipOf s) ≡ s
 unfolding view chipOf
@@ -57,4 +63,5 @@ read-back s f =
       keptbad = s .keptbad;
       quiet = smaller (s .quiet) (f .quiet) i;
       identity = mod-eq-of-lt (f .identity) i;
+      sequencer = sequencer-read-back (s .sequencer) (f .sequencer) i;
     }

@@ -1,18 +1,18 @@
 -- Whatever records come, the state stays in range: from power reset the offset is at most 8, the SCSI FIFO at most 8, the host
--- FIFO at most 128, the counter below 16,777,216 and the pointer below 32; and every answer is sixteen bytes.
+-- FIFO at most 128, the counter below 16,777,216 and the pointer below 32.
 use mathlib.Core.Path.{_≡_, refl, sym, _∙_}
 use mathlib.Core.Bool.{Bool, true, false, not, _&&_, _||_, cond}
 use mathlib.Core.List.{List, [], _∷_, _++_}
-use Prim.Native.Nat.{ℕ, zero, suc, _+_, _-_, _/_, _%_, _<_, _≤_}
+use Prim.Native.Nat.{ℕ, zero, suc, _+_, _-_, _/_, _%_, _^_, _<_, _≤_}
 use native.Mathlib.Omega.{arith}
 use lib.Dec.{ltb, leb, eqb}
 use lib.Bits.{or-lt}
-use lib.Pow.{areBytes}
+use lib.Pow.{areBytes, pow-lt}
 use lib.ListN.{length, take, drop, getD, set, replicate, length-append, length-take, length-drop, length-set, length-replicate}
 use borrow.Author.Tests.{ltb-true, ltb-false, leb-false}
 use Rattle.rules.specs.Numbers.{one, byteOf, padded}
 use Rattle.rules.specs.State.{State, Transfer, powerReset}
-use Rattle.rules.specs.Seen.{atnSeen, bsySeen, selSeen, ioSeen, ackDriven, ackSeen, normal, limit, driving, dataDriven, parityDriven, dataSeen}
+use Rattle.rules.specs.Seen.{phaseBsy, phaseSel, phaseDrives, ownId, otherId, phaseData, atnSeen, bsySeen, selSeen, ioSeen, ackDriven, ackSeen, normal, limit, byteDriving, byteDriven, driving, dataDriven, parityDriven, dataSeen}
 use Rattle.rules.specs.Map.{readAt}
 use Rattle.rules.specs.Records.{linesOf, payloadLimit, offsetLimit, eventOf, wellFormed, fieldsOf, payloadOf, decode}
 use Rattle.rules.specs.Events.{writes, reads, valueOf, linesAfter, offered, asked, portWrite}
@@ -21,14 +21,20 @@ use Rattle.rules.specs.Stack.{stackByte, stackPlace, pointerAfter, stack
 use Rattle.rules.specs.Interrupts.{phasemis, instat, irq}
 use Rattle.rules.specs.Reads.{scsisigi, scsibus, sstat0, sstat1, sstat2, sstat3, sstat4, dmastat, idBytes, readOf, readMapped, valueRead}
 use Rattle.rules.specs.Codes.{noRoom, accessCode, refusedValue, isDone}
-use Rattle.rules.specs.StepA.{clrstcnt, clrch, rstfifo, automaticAck, registersA, hostA, counterA, transferA, stackA, identityA, afterA}
+use Rattle.rules.specs.StepA.{clrstcnt, clrch, rstfifo, automaticAck, registersA, hostA, counterA, transferA, stackA, identityA, givesUp, sequencerA, afterA}
 use Rattle.rules.specs.declared.counts.Direction.{Direction}
 use Rattle.rules.specs.declared.counts.Direction.the-variants.{Up, Down}
-use Rattle.rules.specs.StepB.{ackReleased, registersWith, offsetCleared, busReset, beyondLimit, reqWithin, synchronousReq, storedByte, reqRisen, quietAfter, busFreed, phaseChanged, afterB}
+use Rattle.rules.specs.StepB.{ackReleased, registersWith, offsetCleared, busReset, beyondLimit, reqWithin, synchronousReq, storedByte, reqRisen, quietAfter, busFreed, scsiseqWith, afterSequencer, phaseChanged, afterB}
+use Rattle.rules.specs.Sequencer.{Sequenced, sequencedOf, waited, entered, selingoCleared, selingoRaised, seltoRaised, seldoRaised, seldiRaised, selectionFreed, silenced, arbitrates, selects, timesOut, reselected, connects, sequenced}
+use Rattle.rules.proofs.Sequencing.{Ticking, sequenced-keeps}
+use Rattle.rules.specs.declared.chip.Phase.{Phase}
+use Rattle.rules.specs.declared.chip.Phase.the-variants.{Idle, Waiting, Arbitrating, Clearing, Selecting, Holding, Answering, Answered}
+use Rattle.rules.specs.declared.chip.Sequencer.{Sequencer}
+use Rattle.rules.specs.Seen.{isPhase}
 use Rattle.rules.specs.StepC.{Settling, conditions, canMove, move, canHandshake, storedBy, handshake, settle, turns, started, settledC}
 use Rattle.rules.specs.StepD.{finished, afterD}
 use Rattle.rules.specs.Answers.{Stepped, controlDriven, answerOf, answerBytes}
-use Rattle.rules.specs.Step.{ended, done, access, stepEvent, stepDecoded, step, answer, after}
+use Rattle.rules.specs.Step.{ended, done, access, joined, singleTicks, ticksTaken, stepEvent, stepDecoded, step, after}
 use Rattle.rules.specs.Ranges.{EventFits, DecodedFits, TransferFits, RegistersFit, StackFits, InRange, Bytes, TransferBytes, RegistersBytes, InBytes}
 use Rattle.rules.specs.declared.registers.Scsiseq.{Scsiseq}
 use Rattle.rules.specs.declared.registers.Sxfrctl0.{Sxfrctl0}
@@ -268,6 +274,11 @@ identity-a : (n : ℕ) (e : Event) → n < 32 → identityA n e < 32
 unfolding identityA
 identity-a n e h = cond-case (λ m. m < 32) (reads e ID) _ _ (λ q. omega arith) (λ q. h)
 
+sequencer-a : (s : State) (e : Event) → s .sequencer .ticks < counterSize → (sequencerA (s .registers) (s .quiet) (s .sequencer) e) .ticks < counterSize
+unfolding sequencerA
+sequencer-a s e h =
+    cond-case (λ n. n < counterSize) (givesUp (registersA (s .registers) e) (s .sequencer) e) 0 (s .sequencer .ticks) (λ q. omega arith) (λ q. h)
+
 -- after A: nothing is out of range where the port has room
 after-a : (s : State) (e : Event) → EventFits e → length (s .transfer .host) + length (offered e) ≤ 128 → InRange s → InRange (afterA s e)
 unfolding afterA
@@ -278,27 +289,53 @@ after-a s e f room i =
       stack = stack-a (s .registers .dmacntrl1 .enstk32) (s .stack) e (i .stack);
       quiet = i .quiet;
       identity = identity-a (s .identity) e (i .identity);
+      sequencer = sequencer-a s e (i .sequencer);
     }
 
 pub bytes-after-a : (s : State) (e : Event) → EventFits e → InBytes s → InBytes (afterA s e)
-unfolding afterA
+unfolding afterA sequencerA
 bytes-after-a s e f i =
     record {
       lines = lines-fit e (s .lines) f (i .lines);
       registers = registers-bytes-a (s .registers) e f (i .registers);
       transfer = transfer-bytes-a (automaticAck s e) (s .transfer) e f (i .transfer);
       stack = stack-bytes-a (s .registers .dmacntrl1 .enstk32) (s .stack) e f (i .stack);
+      selid = i .selid;
     }
+
+-- the IDs are bits of a byte
+id-fits : (k : ℕ) → k < 8 → 2 ^ k < 256
+id-fits k h = pow-lt h
+
+own-fits : (r : Registers) → ownId r < 256
+unfolding ownId
+own-fits r = id-fits (r .scsiid .oid % 8) (omega arith)
+
+other-fits : (r : Registers) → otherId r < 256
+unfolding otherId
+other-fits r = id-fits (r .scsiid .tid % 8) (omega arith)
+
+phase-data-fits : (p : Phase) (r : Registers) → phaseData p r < 256
+unfolding phaseData
+phase-data-fits Idle r = omega arith
+phase-data-fits Waiting r = omega arith
+phase-data-fits Arbitrating r = own-fits r
+phase-data-fits Clearing r = own-fits r
+phase-data-fits Selecting r = or-lt 8 (ownId r) (otherId r) (own-fits r) (other-fits r)
+phase-data-fits Holding r = or-lt 8 (ownId r) (otherId r) (own-fits r) (other-fits r)
+phase-data-fits Answering r = omega arith
+phase-data-fits Answered r = omega arith
 
 -- the data driven and the data seen are bytes
 pub data-driven-fits : (s : State) → RegistersBytes (s .registers) → TransferBytes (s .transfer) → dataDriven s < 256
-unfolding dataDriven
-data-driven-fits s i j = go (driving s) (normal (s .registers))
+unfolding dataDriven byteDriven
+data-driven-fits s i j = go (phaseDrives (s .sequencer .phase)) (byteDriving s) (normal (s .registers))
   where
-    go : (d n : Bool) → cond d (cond n (s .transfer .last) (s .registers .scsidat)) 0 < 256
-    go true true = j .last
-    go true false = i .scsidat
-    go false n = omega arith
+    go : (q d n : Bool) → cond q (phaseData (s .sequencer .phase) (s .registers)) (cond d (cond n (s .transfer .last) (s .registers .scsidat)) 0) < 256
+    go true d n = phase-data-fits (s .sequencer .phase) (s .registers)
+    go false true true = j .last
+    go false true false = i .scsidat
+    go false false n = omega arith
 
 -- the data seen, driven by others or by the chip, is a byte
 pub data-seen-fits : (s : State) → s .lines .byte < 256 → RegistersBytes (s .registers) → TransferBytes (s .transfer) → dataSeen s < 256
@@ -365,8 +402,56 @@ module _ (now : State) where
       cond-case (λ n. n ≤ 8) (bsySeen now || selSeen now) _ _
       (λ h. omega arith) (λ h. omega arith)
 
+-- what the sequencer leaves: the quiet ticks are at most 8, its own ticks below the longest timeout
+record SequencedFits (x : Sequenced) : Type 0 where
+  quiet : x .quiet ≤ 8
+  ticks : x .sequencer .ticks < counterSize
+
+sequencing : (s : State) → Ticking s SequencedFits
+unfolding waited entered arbitrates selects timesOut reselected connects silenced selingoCleared selingoRaised seltoRaised seldoRaised seldiRaised
+sequencing s =
+    record {
+      waits = λ n x h f. record { quiet = f .quiet; ticks = omega arith };
+      moved = λ p x f. record { quiet = f .quiet; ticks = omega arith };
+      arbitrated = λ x f. record { quiet = omega arith; ticks = omega arith };
+      selecting = λ x f. record { quiet = f .quiet; ticks = omega arith };
+      ended = λ x f. record { quiet = f .quiet; ticks = omega arith };
+      answered = λ x f. record { quiet = f .quiet; ticks = omega arith };
+      taken = λ x f. record { quiet = f .quiet; ticks = omega arith };
+      silent =
+          λ x f.
+          record {
+            quiet = f .quiet;
+            ticks = cond-case (λ (q : Sequencer). q .ticks < counterSize) (isPhase Idle (x .sequencer .phase)) _ _ (λ e. f .ticks) (λ e. omega arith);
+          };
+    }
+
+sequenced-fits : (s : State) (tick : Bool) (before : ℕ) → s .quiet ≤ 8 → s .sequencer .ticks < counterSize → SequencedFits (sequenced tick before s)
+unfolding sequencedOf
+sequenced-fits s tick before q t =
+    sequenced-keeps s SequencedFits (sequencing s) tick before (record { quiet = q; ticks = t })
+
+-- 345h holds a byte
+selid-keeps : (s : State) → s .lines .byte < 256 → Ticking s (λ x. x .sequencer .selid < 256)
+unfolding waited entered arbitrates selects timesOut reselected connects silenced selingoCleared selingoRaised seltoRaised seldoRaised seldiRaised
+selid-keeps s b =
+    record {
+      waits = λ n x h f. f;
+      moved = λ p x f. f;
+      arbitrated = λ x f. f;
+      selecting = λ x f. f;
+      ended = λ x f. f;
+      answered = λ x f. b;
+      taken = λ x f. f;
+      silent = λ x f. cond-case (λ (q : Sequencer). q .selid < 256) (isPhase Idle (x .sequencer .phase)) _ _ (λ e. f) (λ e. f);
+    }
+
+sequenced-byte : (s : State) (tick : Bool) (before : ℕ) → s .lines .byte < 256 → s .sequencer .selid < 256 → (sequenced tick before s) .sequencer .selid < 256
+unfolding sequencedOf
+sequenced-byte s tick before b h = sequenced-keeps s (λ x. x .sequencer .selid < 256) (selid-keeps s b) tick before h
+
 range-keeps : Keeps InRange
-unfolding ackReleased busReset reqRisen busFreed phaseChanged
+unfolding ackReleased busReset reqRisen busFreed selectionFreed afterSequencer phaseChanged
 range-keeps =
     record {
       released =
@@ -377,6 +462,7 @@ range-keeps =
             stack = i .stack;
             quiet = i .quiet;
             identity = i .identity;
+            sequencer = i .sequencer;
           };
       reset =
           λ n i.
@@ -386,6 +472,7 @@ range-keeps =
             stack = i .stack;
             quiet = i .quiet;
             identity = i .identity;
+            sequencer = i .sequencer;
           };
       risen =
           λ n i.
@@ -395,10 +482,11 @@ range-keeps =
             stack = i .stack;
             quiet = i .quiet;
             identity = i .identity;
+            sequencer = i .sequencer;
           };
       ticked =
           λ n ticks i.
-          record { registers = i .registers; transfer = i .transfer; stack = i .stack; quiet = quiet-fits n ticks; identity = i .identity };
+          record { registers = i .registers; transfer = i .transfer; stack = i .stack; quiet = quiet-fits n ticks; identity = i .identity; sequencer = i .sequencer };
       freed =
           λ n i.
           record {
@@ -407,37 +495,58 @@ range-keeps =
             stack = i .stack;
             quiet = i .quiet;
             identity = i .identity;
+            sequencer = i .sequencer;
+          };
+      sequenced =
+          λ n tick before i.
+          let x = sequenced-fits n tick before (i .quiet) (i .sequencer) in
+          record {
+            registers = registers-with _ _ _ (n .registers) (i .registers);
+            transfer = i .transfer;
+            stack = i .stack;
+            quiet = x .quiet;
+            identity = i .identity;
+            sequencer = x .ticks;
           };
       changed =
           λ n i.
-          record { registers = i .registers; transfer = i .transfer; stack = i .stack; quiet = i .quiet; identity = i .identity };
+          record { registers = i .registers; transfer = i .transfer; stack = i .stack; quiet = i .quiet; identity = i .identity; sequencer = i .sequencer };
     }
 
 bytes-keeps : Keeps InBytes
-unfolding ackReleased busReset reqRisen busFreed phaseChanged
+unfolding ackReleased busReset reqRisen busFreed selectionFreed afterSequencer phaseChanged
 bytes-keeps =
     record {
       released =
           λ n i.
           let t = i .transfer in
-          record { lines = i .lines; registers = i .registers; transfer = record { last = t .last; host = t .host; scsi = t .scsi }; stack = i .stack };
+          record { lines = i .lines; registers = i .registers; transfer = record { last = t .last; host = t .host; scsi = t .scsi }; stack = i .stack; selid = i .selid };
       reset =
           λ n i.
           let t = i .transfer in
           let registers = registers-bytes-with _ _ _ (n .registers) (i .registers) in
-          record { lines = i .lines; registers = registers; transfer = record { last = t .last; host = t .host; scsi = t .scsi }; stack = i .stack };
+          record { lines = i .lines; registers = registers; transfer = record { last = t .last; host = t .host; scsi = t .scsi }; stack = i .stack; selid = i .selid };
       risen =
           λ n i.
           let t = i .transfer in
           let registers = registers-bytes-with _ _ _ (n .registers) (i .registers) in
-          record { lines = i .lines; registers = registers; transfer = record { last = t .last; host = t .host; scsi = bytes-risen n i }; stack = i .stack };
-      ticked = λ n ticks i. record { lines = i .lines; registers = i .registers; transfer = i .transfer; stack = i .stack };
+          record { lines = i .lines; registers = registers; transfer = record { last = t .last; host = t .host; scsi = bytes-risen n i }; stack = i .stack; selid = i .selid };
+      ticked = λ n ticks i. record { lines = i .lines; registers = i .registers; transfer = i .transfer; stack = i .stack; selid = i .selid };
       freed =
           λ n i.
           let t = i .transfer in
           let registers = registers-bytes-with _ _ _ (n .registers) (i .registers) in
-          record { lines = i .lines; registers = registers; transfer = record { last = t .last; host = t .host; scsi = t .scsi }; stack = i .stack };
-      changed = λ n i. record { lines = i .lines; registers = i .registers; transfer = i .transfer; stack = i .stack };
+          record { lines = i .lines; registers = registers; transfer = record { last = t .last; host = t .host; scsi = t .scsi }; stack = i .stack; selid = i .selid };
+      sequenced =
+          λ n tick before i.
+          record {
+            lines = i .lines;
+            registers = registers-bytes-with _ _ _ (n .registers) (i .registers);
+            transfer = i .transfer;
+            stack = i .stack;
+            selid = sequenced-byte n tick before (i .lines) (i .selid);
+          };
+      changed = λ n i. record { lines = i .lines; registers = i .registers; transfer = i .transfer; stack = i .stack; selid = i .selid };
     }
 
 -- after B
@@ -546,13 +655,14 @@ after-d s e i =
       stack = i .stack;
       quiet = i .quiet;
       identity = i .identity;
+      sequencer = i .sequencer;
     }
 
 -- and holds bytes
 pub bytes-after-d : (s : State) (e : Event) → InBytes (afterB s e) → InBytes (afterD s e)
 unfolding afterD finished
 bytes-after-d s e i =
-    record { lines = i .lines; registers = i .registers; transfer = settled-bytes s e i .transfer; stack = i .stack }
+    record { lines = i .lines; registers = i .registers; transfer = settled-bytes s e i .transfer; stack = i .stack; selid = i .selid }
 
 -- every register reads as a byte
 pub read-fits : (s : State) (r : Register) → InRange s → InBytes s → readOf s r < 256
@@ -568,16 +678,18 @@ read-fits s SXFRCTL1 i j =
     byte-fits (q .bitbucket) (q .swrapen) (q .enspchk) (q .stimesel1) (q .stimesel0) (q .enstimer) (q .bytealign) false
 read-fits s SCSISIGI i j =
     byte-fits (s .lines .cd) (s .lines .io) (s .lines .msg) (atnSeen s) (selSeen s) (bsySeen s) (s .lines .req) (ackSeen s)
-read-fits s SELID i j = omega arith
+read-fits s SELID i j = j .selid
 read-fits s SCSIDAT i j = data-seen-fits s (j .lines) (j .registers) (j .transfer)
 read-fits s SCSIBUS i j = data-seen-fits s (j .lines) (j .registers) (j .transfer)
 read-fits s STCNT0 i j = omega arith
 read-fits s STCNT1 i j = omega arith
 read-fits s STCNT2 i j = omega arith
-read-fits s SSTAT0 i j = byte-fits false false false false false false (s .status .spiordy) false
+read-fits s SSTAT0 i j =
+    let q = s .sequencer .status in
+    byte-fits false (q .seldo) (q .seldi) (q .selingo) false false (s .status .spiordy) false
 read-fits s SSTAT1 i j =
     let q = s .status in
-    byte-fits false false (q .scsirsti) (phasemis s) (q .busfree) (q .scsiperr) (q .phasechg) (q .reqinit)
+    byte-fits (s .sequencer .status .selto) false (q .scsirsti) (phasemis s) (q .busfree) (q .scsiperr) (q .phasechg) (q .reqinit)
 read-fits s SSTAT2 i j =
     let n = length (s .transfer .scsi) in
     omega (arith, one-fits (not (eqb (s .transfer .offset) 0)), one-fits (eqb n 0), one-fits (eqb n 8))
@@ -649,6 +761,7 @@ power-reset-fits =
       stack = record { pointer = omega arith; size = refl };
       quiet = omega arith;
       identity = omega arith;
+      sequencer = omega arith;
     }
 
 -- power reset holds bytes
@@ -660,6 +773,7 @@ power-reset-bytes =
       registers = omega arith;
       transfer = record { last = omega arith; host = tt; scsi = tt };
       stack = bytes-zeros 32;
+      selid = omega arith;
     }
 
 -- what a step gives is in range: the state; "at most 16" moves; "ACKs at most 8"; at most 8 bytes sent
@@ -733,15 +847,45 @@ access-bytes s e f i j =
     cond-case StepBytes (isDone (accessCode s e)) _ _ (λ d. done-bytes s e f i j)
     (λ d. ended-bytes s (accessCode s e) (refusedValue e) (refused-value-fits e) j)
 
-event-step-fits : (s : State) (e : Event) → EventFits e → InRange s → StepFits (stepEvent s e)
-unfolding stepEvent
-event-step-fits s PowerReset f i = ended-fits powerReset Done 0 power-reset-fits
-event-step-fits s (Write offset value) f i = access-fits s (Write offset value) f i
-event-step-fits s (Read offset) f i = access-fits s (Read offset) f i
-event-step-fits s (WordWrite word) f i = access-fits s (WordWrite word) f i
-event-step-fits s WordRead f i = access-fits s WordRead f i
-event-step-fits s (Drive lines) f i = access-fits s (Drive lines) f i
-event-step-fits s (Ticks n) f i = access-fits s (Ticks n) f i
+-- ticks, one by one, keep what a tick keeps
+pub ticks-keep : (P : Stepped → Type 0) → ((s : State) → P (ended s Done 0)) → ((s : State) (r : Stepped) → P r → P (joined (access s (Ticks 1)) r)) → (n : ℕ) (s : State) → P (singleTicks n s)
+unfolding singleTicks
+ticks-keep P none more zero s = none s
+ticks-keep P none more (suc n) s = more s (singleTicks n ((access s (Ticks 1)) .state)) (ticks-keep P none more n ((access s (Ticks 1)) .state))
+
+pub single-in-range : (n : ℕ) (s : State) → InRange s → InRange ((singleTicks n s) .state)
+unfolding singleTicks ended
+single-in-range zero s i = i
+single-in-range (suc n) s i =
+    single-in-range n ((access s (Ticks 1)) .state) (access-fits s (Ticks 1) (omega arith) i .state)
+
+single-bytes : (n : ℕ) (s : State) → InRange s → InBytes s → StepBytes (singleTicks n s)
+unfolding singleTicks
+single-bytes zero s i j = ended-bytes s Done 0 (omega arith) j
+single-bytes (suc n) s i j =
+    let first = access-bytes s (Ticks 1) (omega arith) i j in
+    let rest = single-bytes n ((access s (Ticks 1)) .state) (access-fits s (Ticks 1) (omega arith) i .state) (first .state) in
+    record { state = rest .state; value = omega arith; sent = bytes-append ((access s (Ticks 1)) .sent) ((singleTicks n ((access s (Ticks 1)) .state)) .sent) (first .sent) (rest .sent) }
+
+ticks-in-range : (n : ℕ) (s : State) → InRange s → InRange ((ticksTaken n s) .state)
+unfolding ticksTaken
+ticks-in-range zero s i = access-fits s (Ticks 0) (omega arith) i .state
+ticks-in-range (suc n) s i = single-in-range (suc n) s i
+
+ticks-bytes : (n : ℕ) (s : State) → InRange s → InBytes s → StepBytes (ticksTaken n s)
+unfolding ticksTaken
+ticks-bytes zero s i j = access-bytes s (Ticks 0) (omega arith) i j
+ticks-bytes (suc n) s i j = single-bytes (suc n) s i j
+
+event-in-range : (s : State) (e : Event) → EventFits e → InRange s → InRange ((stepEvent s e) .state)
+unfolding stepEvent ended
+event-in-range s PowerReset f i = power-reset-fits
+event-in-range s (Write offset value) f i = access-fits s (Write offset value) f i .state
+event-in-range s (Read offset) f i = access-fits s (Read offset) f i .state
+event-in-range s (WordWrite word) f i = access-fits s (WordWrite word) f i .state
+event-in-range s WordRead f i = access-fits s WordRead f i .state
+event-in-range s (Drive lines) f i = access-fits s (Drive lines) f i .state
+event-in-range s (Ticks n) f i = ticks-in-range n s i
 
 event-step-bytes : (s : State) (e : Event) → EventFits e → InRange s → InBytes s → StepBytes (stepEvent s e)
 unfolding stepEvent
@@ -751,22 +895,22 @@ event-step-bytes s (Read offset) f i j = access-bytes s (Read offset) f i j
 event-step-bytes s (WordWrite word) f i j = access-bytes s (WordWrite word) f i j
 event-step-bytes s WordRead f i j = access-bytes s WordRead f i j
 event-step-bytes s (Drive lines) f i j = access-bytes s (Drive lines) f i j
-event-step-bytes s (Ticks n) f i j = access-bytes s (Ticks n) f i j
+event-step-bytes s (Ticks n) f i j = ticks-bytes n s i j
 
-decoded-step-fits : (s : State) (d : Decoded) → DecodedFits d → InRange s → StepFits (stepDecoded s d)
-unfolding stepDecoded
-decoded-step-fits s (Well e) f i = event-step-fits s e f i
-decoded-step-fits s Ill f i = ended-fits s Malformed 0 i
+decoded-in-range : (s : State) (d : Decoded) → DecodedFits d → InRange s → InRange ((stepDecoded s d) .state)
+unfolding stepDecoded ended
+decoded-in-range s (Well e) f i = event-in-range s e f i
+decoded-in-range s Ill f i = i
 
 decoded-step-bytes : (s : State) (d : Decoded) → DecodedFits d → InRange s → InBytes s → StepBytes (stepDecoded s d)
 unfolding stepDecoded
 decoded-step-bytes s (Well e) f i j = event-step-bytes s e f i j
 decoded-step-bytes s Ill f i j = ended-bytes s Malformed 0 (omega arith) j
 
--- EVERY RECORD, whatever numbers it holds, leaves the state in range and reports at most 16 moves, 8 ACKs and 8 bytes
-pub step-fits : (s : State) (bytes : List ℕ) → InRange s → StepFits (step s bytes)
+-- EVERY RECORD, whatever numbers it holds, leaves the state in range
+pub step-in-range : (s : State) (bytes : List ℕ) → InRange s → InRange ((step s bytes) .state)
 unfolding step
-step-fits s bytes i = decoded-step-fits s (decode bytes) (decode-fits bytes) i
+step-in-range s bytes i = decoded-in-range s (decode bytes) (decode-fits bytes) i
 
 -- every record leaves bytes where bytes are stored, sends bytes, and gives a value of 16 bits
 pub step-bytes : (s : State) (bytes : List ℕ) → InRange s → InBytes s → StepBytes (step s bytes)
@@ -776,7 +920,7 @@ step-bytes s bytes i j = decoded-step-bytes s (decode bytes) (decode-fits bytes)
 -- and so does every list of records
 pub after-fits : (s : State) (records : List (List ℕ)) → InRange s → InRange (after s records)
 after-fits s [] i = i
-after-fits s (bytes ∷ more) i = after-fits ((step s bytes) .state) more (step-fits s bytes i .state)
+after-fits s (bytes ∷ more) i = after-fits ((step s bytes) .state) more (step-in-range s bytes i)
 
 -- FROM POWER RESET, AFTER ANY LIST OF RECORDS, THE STATE IS IN RANGE
 pub always-in-range : (records : List (List ℕ)) → InRange (after powerReset records)
@@ -807,70 +951,8 @@ always-bounded records =
 pub after-bytes : (s : State) (records : List (List ℕ)) → InRange s → InBytes s → InBytes (after s records)
 after-bytes s [] i j = j
 after-bytes s (bytes ∷ more) i j =
-    after-bytes ((step s bytes) .state) more (step-fits s bytes i .state) (step-bytes s bytes i j .state)
+    after-bytes ((step s bytes) .state) more (step-in-range s bytes i) (step-bytes s bytes i j .state)
 
 -- from power reset, after any list of records, what is stored as a byte is one
 pub always-in-bytes : (records : List (List ℕ)) → InBytes (after powerReset records)
 always-in-bytes records = after-bytes powerReset records power-reset-fits power-reset-bytes
-
--- an answer is sixteen bytes
-pub record AnswerFits (l : List ℕ) : Type 0 where
-  pub size : length l ≡ 16
-  pub bytes : Bytes l
-
-control-fits : (s : State) → controlDriven s < 256
-unfolding controlDriven
-control-fits s =
-    let g = s .registers .scsisig in
-    byte-fits false false false (g .atno) (g .selo) (g .bsyo) false (ackDriven s)
-
-sent-size : (l : List ℕ) → length l ≤ 8 → length (padded 8 l) ≡ 8
-unfolding padded
-sent-size l h = simp (length-append, length-replicate) (omega arith)
-
-sent-fits : (l : List ℕ) → Bytes l → Bytes (padded 8 l)
-unfolding padded
-sent-fits l h = bytes-append l (replicate (8 - length l) 0) h (bytes-zeros (8 - length l))
-
-stepped-answer-fits : (r : Stepped) → StepFits r → StepBytes r → AnswerFits (answerBytes (answerOf r))
-unfolding answerOf answerBytes
-stepped-answer-fits r f g =
-    let s = r .state in
-    record {
-      size = rw (sent-size (r .sent) (f .sent));
-      bytes = (
-        omega (arith, eight-codes (r .code), one-fits (irq s)),
-        (
-          omega (arith, one-fits (driving s), one-fits (s .registers .scsiseq .scsirsto), one-fits (parityDriven s)),
-          (
-            omega arith,
-            (
-              omega arith,
-              (
-                control-fits s,
-                (
-                  data-driven-fits s (g .state .registers) (g .state .transfer),
-                  (
-                    omega arith,
-                    (
-                      omega (arith, f .state .transfer .host),
-                      sent-fits (r .sent) (g .sent),
-                    ),
-                  ),
-                ),
-              ),
-            ),
-          ),
-        ),
-      );
-    }
-
--- EVERY ANSWER IS SIXTEEN BYTES, each below 256
-pub answer-fits : (s : State) (bytes : List ℕ) → InRange s → InBytes s → AnswerFits (answer s bytes)
-unfolding answer
-answer-fits s bytes i j = stepped-answer-fits (step s bytes) (step-fits s bytes i) (step-bytes s bytes i j)
-
--- FROM POWER RESET, AFTER ANY LIST OF RECORDS, THE NEXT ANSWER IS SIXTEEN BYTES
-pub always-answers : (records : List (List ℕ)) (bytes : List ℕ) → AnswerFits (answer (after powerReset records) bytes)
-always-answers records bytes =
-    answer-fits (after powerReset records) bytes (always-in-range records) (always-in-bytes records)

@@ -2,7 +2,7 @@
 use mathlib.Core.Path.{_≡_, refl, sym, _∙_, ap}
 use mathlib.Core.Bool.{Bool, true, false, cond, and-not-self}
 use mathlib.Core.List.{List, [], _∷_}
-use Prim.Native.Nat.{ℕ, _≤_}
+use Prim.Native.Nat.{ℕ, zero, suc, _≤_}
 use native.Mathlib.Omega.{arith}
 use Rattle.rules.specs.State.{State}
 use Rattle.rules.specs.Map.{readAt, writtenAt}
@@ -12,7 +12,7 @@ use Rattle.rules.specs.Codes.{numberOf, absent, testValue, shut, noRoom,
 use Rattle.rules.specs.StepA.{afterA}
 use Rattle.rules.specs.StepB.{reqRises, beyond, atReq}
 use Rattle.rules.specs.Answers.{Stepped}
-use Rattle.rules.specs.Step.{ended, done, access, stepEvent, stepDecoded, step, refused}
+use Rattle.rules.specs.Step.{ended, done, access, singleTicks, ticksTaken, stepEvent, stepDecoded, step, refused}
 use Rattle.rules.specs.declared.codes.Code.{Code}
 use Rattle.rules.specs.declared.codes.Code.the-variants.{Done, Malformed, Absent, Shut, NoRoom, NoBytes, BeyondLimit, TestValue}
 use Rattle.rules.specs.declared.map.Mapped.the-variants.{Missing}
@@ -106,6 +106,12 @@ access-refused s e =
     cond-case (λ (r : Stepped). isRefusal (r .code) ≡ true → Unchanged s r) (isDone (accessCode s e)) _ _
     (λ q h. absurd (done-unrefused s e h)) (λ q h. record { state = refl; moves = refl; acks = refl; sent = refl })
 
+-- ticks are refused only where there are none
+ticks-refused : (s : State) (n : ℕ) → isRefusal ((ticksTaken n s) .code) ≡ true → Unchanged s (ticksTaken n s)
+unfolding ticksTaken singleTicks
+ticks-refused s zero h = access-refused s (Ticks 0) h
+ticks-refused s (suc n) h = absurd (never h)
+
 -- a refusal changes nothing and reports no ACK, no move, no sent byte
 pub refusal-changes-nothing : (s : State) (bytes : List ℕ) → isRefusal ((step s bytes) .code) ≡ true → Unchanged s (step s bytes)
 unfolding step stepDecoded stepEvent ended
@@ -119,7 +125,7 @@ refusal-changes-nothing s bytes = go (decode bytes)
     go (Well (WordWrite w)) h = access-refused s (WordWrite w) h
     go (Well WordRead) h = access-refused s WordRead h
     go (Well (Drive l)) h = access-refused s (Drive l) h
-    go (Well (Ticks n)) h = access-refused s (Ticks n) h
+    go (Well (Ticks n)) h = ticks-refused s n h
 
 -- the value of a refusal: "FFh on read", "all ones of the width on read", "0 on write"
 access-value : (s : State) (e : Event) → isRefusal ((access s e) .code) ≡ true → (access s e) .value ≡ refusedValue e
@@ -129,14 +135,18 @@ access-value s e =
     (λ q h. absurd (done-unrefused s e h)) (λ q h. refl)
 
 pub refusal-value : (s : State) (e : Event) → isRefusal ((stepEvent s e) .code) ≡ true → (stepEvent s e) .value ≡ refusedValue e
-unfolding stepEvent ended
+unfolding stepEvent ended ticksTaken singleTicks refusedValue
 refusal-value s PowerReset h = absurd (never h)
 refusal-value s (Write o v) h = access-value s (Write o v) h
 refusal-value s (Read o) h = access-value s (Read o) h
 refusal-value s (WordWrite w) h = access-value s (WordWrite w) h
 refusal-value s WordRead h = access-value s WordRead h
 refusal-value s (Drive l) h = access-value s (Drive l) h
-refusal-value s (Ticks n) h = access-value s (Ticks n) h
+refusal-value s (Ticks n) h = ticks-value n h
+  where
+    ticks-value : (n : ℕ) → isRefusal ((ticksTaken n s) .code) ≡ true → (ticksTaken n s) .value ≡ 0
+    ticks-value zero h = access-value s (Ticks 0) h
+    ticks-value (suc n) h = absurd (never h)
 
 -- an access that finds nothing: the code and the value that the map has for it
 pub record Missed (s : State) (e : Event) : Type 0 where
@@ -192,6 +202,11 @@ access-beyond s e h =
     cond-case (λ (r : Stepped). r .code ≡ BeyondLimit → ⊥) (isDone (accessCode s e)) _ _ (λ q. done-beyond s e h)
     (λ q. checks-beyond s e)
 
+ticks-beyond : (s : State) (n : ℕ) → (ticksTaken n s) .code ≡ BeyondLimit → ⊥
+unfolding ticksTaken singleTicks linesAfter
+ticks-beyond s zero h = access-beyond s (Ticks 0) refl h
+ticks-beyond s (suc n) h = omega (arith, ap numberOf h)
+
 -- "6 arises only in kind 5"
 pub beyond-only-lines : (s : State) (bytes : List ℕ) → (step s bytes) .code ≡ BeyondLimit → (l : Lines) × (decode bytes ≡ Well (Drive l))
 unfolding step stepDecoded stepEvent ended linesAfter
@@ -205,7 +220,7 @@ beyond-only-lines s bytes = go (decode bytes)
     go (Well (WordWrite w)) h = absurd (access-beyond s (WordWrite w) refl h)
     go (Well WordRead) h = absurd (access-beyond s WordRead refl h)
     go (Well (Drive l)) h = (l, refl)
-    go (Well (Ticks n)) h = absurd (access-beyond s (Ticks n) refl h)
+    go (Well (Ticks n)) h = absurd (ticks-beyond s n h)
 
 -- each refusal with its value, computed: the code's three bits, then the value in the third and fourth byte
 abbrev refusalValues : List Row

@@ -2,12 +2,12 @@
 -- driven 1; value read 16; control lines driven 8 (order of 343h); data driven 8; offset 4, SCSI FIFO count 4; host FIFO
 -- count 8; then eight bytes: those sent by Normal-mode ACKs in this event, in order, the rest 0."
 use Prim.Native.Nat.{ℕ, _+_, _*_, _/_, _%_}
-use mathlib.Core.Bool.{Bool, true, false}
+use mathlib.Core.Bool.{Bool, true, false, _||_}
 use mathlib.Core.List.{List, _∷_}
 use lib.ListN.{length}
 use Rattle.rules.specs.Numbers.{one, byteOf, padded}
 use Rattle.rules.specs.State.{State}
-use Rattle.rules.specs.Seen.{ackDriven, driving, dataDriven, parityDriven}
+use Rattle.rules.specs.Seen.{phaseBsy, phaseSel, ackDriven, driving, dataDriven, parityDriven}
 use Rattle.rules.specs.Interrupts.{irq}
 use Rattle.rules.specs.Codes.{numberOf}
 use Rattle.rules.specs.declared.codes.Code.{Code}
@@ -25,11 +25,12 @@ pub record Stepped : Type 0 where
 abbrev pub answerSize : ℕ
 answerSize = 16
 
--- "control lines driven 8 (order of 343h)": CD, IO, MSG and REQ are never driven
+-- "control lines driven 8 (order of 343h)": CD, IO, MSG and REQ are never driven; SEL and BSY by the sequencer too (R-1)
 unfoldable pub controlDriven : State → ℕ
 controlDriven s =
     let g = s .registers .scsisig in
-    byteOf false false false (g .atno) (g .selo) (g .bsyo) false (ackDriven s)
+    let p = s .sequencer .phase in
+    byteOf false false false (g .atno) (g .selo || phaseSel p) (g .bsyo || phaseBsy p) false (ackDriven s)
 
 -- the fields of an answer
 unfoldable pub answerOf : Stepped → Answer

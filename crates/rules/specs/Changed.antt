@@ -8,6 +8,7 @@ use Rattle.rules.specs.declared.records.Lines.{Lines}
 use Rattle.rules.specs.declared.chip.Status.{Status}
 use Rattle.rules.specs.declared.chip.Latches.{Latches}
 use Rattle.rules.specs.declared.chip.Stack.{Stack}
+use Rattle.rules.specs.declared.chip.Sequencer.{Sequencer}
 
 abbrev pub withLines : Lines → State → State
 withLines x s =
@@ -21,6 +22,7 @@ withLines x s =
       keptbad = s .keptbad;
       quiet = s .quiet;
       identity = s .identity;
+      sequencer = s .sequencer;
     }
 
 abbrev pub withRegisters : Registers → State → State
@@ -35,6 +37,7 @@ withRegisters x s =
       keptbad = s .keptbad;
       quiet = s .quiet;
       identity = s .identity;
+      sequencer = s .sequencer;
     }
 
 abbrev pub withTransfer : Transfer → State → State
@@ -49,6 +52,7 @@ withTransfer x s =
       keptbad = s .keptbad;
       quiet = s .quiet;
       identity = s .identity;
+      sequencer = s .sequencer;
     }
 
 abbrev pub withStatus : Status → State → State
@@ -63,6 +67,7 @@ withStatus x s =
       keptbad = s .keptbad;
       quiet = s .quiet;
       identity = s .identity;
+      sequencer = s .sequencer;
     }
 
 abbrev pub withLatches : Latches → State → State
@@ -77,6 +82,7 @@ withLatches x s =
       keptbad = s .keptbad;
       quiet = s .quiet;
       identity = s .identity;
+      sequencer = s .sequencer;
     }
 
 abbrev pub withStack : Stack → State → State
@@ -91,6 +97,7 @@ withStack x s =
       keptbad = s .keptbad;
       quiet = s .quiet;
       identity = s .identity;
+      sequencer = s .sequencer;
     }
 
 abbrev pub withKept : Bool → State → State
@@ -105,6 +112,7 @@ withKept x s =
       keptbad = x;
       quiet = s .quiet;
       identity = s .identity;
+      sequencer = s .sequencer;
     }
 
 abbrev pub withQuiet : ℕ → State → State
@@ -119,6 +127,7 @@ withQuiet x s =
       keptbad = s .keptbad;
       quiet = x;
       identity = s .identity;
+      sequencer = s .sequencer;
     }
 
 abbrev pub withIdentity : ℕ → State → State
@@ -133,6 +142,22 @@ withIdentity x s =
       keptbad = s .keptbad;
       quiet = s .quiet;
       identity = x;
+      sequencer = s .sequencer;
+    }
+
+abbrev pub withSequencer : Sequencer → State → State
+withSequencer x s =
+    record {
+      lines = s .lines;
+      registers = s .registers;
+      transfer = s .transfer;
+      status = s .status;
+      latches = s .latches;
+      stack = s .stack;
+      keptbad = s .keptbad;
+      quiet = s .quiet;
+      identity = s .identity;
+      sequencer = x;
     }
 
 -- a data path with one part another

@@ -11,6 +11,7 @@ use Rattle.rules.specs.declared.chip.HostFifo.{HostFifo}
 use Rattle.rules.specs.declared.chip.ScsiFifo.{ScsiFifo}
 use Rattle.rules.specs.declared.chip.DataPath.{DataPath}
 use Rattle.rules.specs.declared.chip.Stack.{Stack}
+use Rattle.rules.specs.declared.chip.Sequencer.{Sequencer}
 use Rattle.rules.specs.declared.chip.Chip.{Chip}
 
 abbrev pub hostView : HostFifo → List ℕ
@@ -67,6 +68,17 @@ registersView r =
 unfoldable pub stackView : Stack → Stack
 stackView k = record { bytes = k .bytes; pointer = k .pointer % 32 }
 
+unfoldable pub sequencerView : Sequencer → Sequencer
+sequencerView q =
+    record {
+      phase = q .phase;
+      ticks = q .ticks % counterSize;
+      noted = q .noted;
+      selid = q .selid;
+      status = q .status;
+      latches = q .latches;
+    }
+
 -- the state that a chip value stands for
 unfoldable pub view : Chip → State
 view c =
@@ -80,6 +92,7 @@ view c =
       keptbad = c .keptbad;
       quiet = min 8 (c .quiet);
       identity = c .identity % 32;
+      sequencer = sequencerView (c .sequencer);
     }
 
 -- the chip value of a state
@@ -95,4 +108,5 @@ chipOf s =
       keptbad = s .keptbad;
       quiet = s .quiet;
       identity = s .identity;
+      sequencer = s .sequencer;
     }

@@ -3,6 +3,7 @@ use mathlib.Core.Bool.{Bool, not, _&&_, _||_}
 use Rattle.rules.specs.State.{State}
 use Rattle.rules.specs.Seen.{mismatched}
 use Rattle.rules.specs.declared.chip.Latches.{Latches}
+use Rattle.rules.specs.declared.chip.Selection.{Selection}
 
 -- "PHASEMIS is live: connected, not matched, REQINIT."
 unfoldable pub phasemis : State → Bool
@@ -26,9 +27,14 @@ latched x =
 abbrev pub anyLatch : Latches → Bool
 anyLatch k = k .spiordy || k .scsirsti || k .busfree || k .scsiperr || k .phasechg || k .reqinit
 
+-- R-1: those of SELDO, SELDI, SELINGO and SELTO
+abbrev pub anySelection : Selection → Bool
+anySelection k = k .seldo || k .seldi || k .selingo || k .selto
+
 -- "PHASEMIS has no latch: it counts while enabled. INSTAT is any latch, enabled PHASEMIS, or SWINT."
 unfoldable pub instat : State → Bool
-instat s = anyLatch (s .latches) || (phasemis s && s .registers .simode1 .enphasemis) || s .registers .dmacntrl0 .swint
+instat s =
+    (anyLatch (s .latches) || anySelection (s .sequencer .latches)) || (phasemis s && s .registers .simode1 .enphasemis) || s .registers .dmacntrl0 .swint
 
 -- "IRQ is INSTAT and INTEN."
 unfoldable pub irq : State → Bool

@@ -10,6 +10,7 @@ pub mod Events
 pub mod Counter
 pub mod Stack
 pub mod Interrupts
+pub mod Sequencer
 pub mod Reads
 pub mod Codes
 pub mod StepA
@@ -18,7 +19,6 @@ pub mod StepC
 pub mod StepD
 pub mod Answers
 pub mod Step
-pub mod SingleTicks
 pub mod Chips
 pub mod Ranges
 pub mod Examples

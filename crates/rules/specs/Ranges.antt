@@ -32,12 +32,14 @@ pub record StackFits (k : Stack) : Type 0 where
   pub pointer : k .pointer < 32
   pub size : length (k .bytes) ≡ 32
 
+-- the ticks of the sequencer are held in 24 bits
 pub record InRange (s : State) : Type 0 where
   pub registers : RegistersFit (s .registers)
   pub transfer : TransferFits (s .transfer)
   pub stack : StackFits (s .stack)
   pub quiet : s .quiet ≤ 8
   pub identity : s .identity < 32
+  pub sequencer : s .sequencer .ticks < counterSize
 
 -- a chip value in the one form that functions return, with its state in range
 pub record Tidy (c : Chip) : Type 0 where
@@ -64,6 +66,7 @@ pub record InBytes (s : State) : Type 0 where
   pub registers : RegistersBytes (s .registers)
   pub transfer : TransferBytes (s .transfer)
   pub stack : Bytes (s .stack .bytes)
+  pub selid : s .sequencer .selid < 256
 
 -- the fields of an event are in range
 abbrev pub EventFits : Event → Type 0

@@ -28,14 +28,16 @@ scsisigi s =
 unfoldable pub scsibus : State → ℕ
 scsibus s = dataSeen s
 
--- 34Bh: SPIORDY 1; "Status bits not ruled here read 0."
+-- 34Bh: SELDO 6, SELDI 5, SELINGO 4 (R-1), SPIORDY 1; "Status bits not ruled here read 0.", and "TARGET (34Bh bit 7) reads 0 until R-7."
 unfoldable pub sstat0 : State → ℕ
-sstat0 s = byteOf false false false false false false (s .status .spiordy) false
+sstat0 s =
+    let t = s .sequencer .status in
+    byteOf false (t .seldo) (t .seldi) (t .selingo) false false (s .status .spiordy) false
 
--- 34Ch: SCSIRSTI 5, PHASEMIS 4, BUSFREE 3, SCSIPERR 2, PHASECHG 1, REQINIT 0
+-- 34Ch: SELTO 7 (R-1), SCSIRSTI 5, PHASEMIS 4, BUSFREE 3, SCSIPERR 2, PHASECHG 1, REQINIT 0
 unfoldable pub sstat1 : State → ℕ
 sstat1 s =
-    byteOf false false (s .status .scsirsti) (phasemis s) (s .status .busfree) (s .status .scsiperr) (s .status .phasechg)
+    byteOf (s .sequencer .status .selto) false (s .status .scsirsti) (phasemis s) (s .status .busfree) (s .status .scsiperr) (s .status .phasechg)
     (s .status .reqinit)
 
 -- "34Dh gives the FIFO count's low 3 bits with EMPTY, SFULL, SOFFSET."
@@ -71,7 +73,7 @@ readOf s SCSISEQ = scsiseqByte (s .registers .scsiseq)
 readOf s SXFRCTL0 = sxfrctl0Byte (s .registers .sxfrctl0)
 readOf s SXFRCTL1 = sxfrctl1Byte (s .registers .sxfrctl1)
 readOf s SCSISIGI = scsisigi s
-readOf s SELID = 0
+readOf s SELID = s .sequencer .selid  -- R-1: "345h reads the byte that others drove when the chip was last reselected"
 readOf s SCSIDAT = scsibus s
 readOf s SCSIBUS = scsibus s
 readOf s STCNT0 = counterByte 0 (s .transfer .counter)

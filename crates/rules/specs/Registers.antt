@@ -76,7 +76,7 @@ scsisigOf atn v =
 abbrev pub scsirateOf : ℕ → Scsirate
 scsirateOf v = record { sxfr = field v 4 3; sofs = field v 0 4 }
 
--- 345h SCSIID, as written. "345h reads 0."
+-- 345h SCSIID, as written; what it reads is another byte (R-1, specs/Reads.antt)
 abbrev pub scsiidOf : ℕ → Scsiid
 scsiidOf v = record { oid = field v 4 3; tid = field v 0 3 }
 

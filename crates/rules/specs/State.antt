@@ -9,6 +9,9 @@ use Rattle.rules.specs.declared.records.Lines.{Lines}
 use Rattle.rules.specs.declared.chip.Status.{Status}
 use Rattle.rules.specs.declared.chip.Latches.{Latches}
 use Rattle.rules.specs.declared.chip.Stack.{Stack}
+use Rattle.rules.specs.declared.chip.Phase.the-variants.{Idle}
+use Rattle.rules.specs.declared.chip.Selection.{Selection}
+use Rattle.rules.specs.declared.chip.Sequencer.{Sequencer}
 
 -- "both FIFOs; counter, offset": the data path; ack is the automatic ACK, last the byte last sent
 pub record Transfer : Type 0 where
@@ -20,7 +23,7 @@ pub record Transfer : Type 0 where
   pub last : ℕ
 
 -- lines: those that others drive; keptbad: the kept parity of R-2 is bad; quiet: the quiet ticks; identity: the place in the ID
--- string
+-- string; sequencer: that of R-1
 pub record State : Type 0 where
   pub lines : Lines
   pub registers : Registers
@@ -31,6 +34,7 @@ pub record State : Type 0 where
   pub keptbad : Bool
   pub quiet : ℕ
   pub identity : ℕ
+  pub sequencer : Sequencer
 
 -- "Power reset: everything 0 and empty, all lines released, those others drive included."; R-2: "Before any inbound byte the kept
 -- parity is good."
@@ -84,6 +88,14 @@ abbrev pub latchesReset : Latches
 latchesReset =
     record { spiordy = false; scsirsti = false; busfree = false; scsiperr = false; phasechg = false; reqinit = false }
 
+-- R-1: "All is 0, released and idle after power reset."
+abbrev pub noSelection : Selection
+noSelection = record { seldo = false; seldi = false; selingo = false; selto = false }
+
+abbrev pub sequencerReset : Sequencer
+sequencerReset =
+    record { phase = Idle; ticks = 0; noted = false; selid = 0; status = noSelection; latches = noSelection }
+
 unfoldable pub powerReset : State
 powerReset =
     record {
@@ -96,4 +108,5 @@ powerReset =
       keptbad = false;
       quiet = 0;
       identity = 0;
+      sequencer = sequencerReset;
     }

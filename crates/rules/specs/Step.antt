@@ -1,7 +1,7 @@
 -- The whole step: a state and a record give a new state and an answer.
-use Prim.Native.Nat.{ℕ}
+use Prim.Native.Nat.{ℕ, zero, suc, _+_}
 use mathlib.Core.Bool.{cond}
-use mathlib.Core.List.{List, [], _∷_}
+use mathlib.Core.List.{List, [], _∷_, _++_}
 use lib.Dec.{eqb}
 use lib.ListN.{length}
 use Rattle.rules.specs.State.{State, powerReset}
@@ -43,6 +43,28 @@ done s e =
 unfoldable pub access : State → Event → Stepped
 access s e = cond (isDone (accessCode s e)) (done s e) (refused s (accessCode s e) (refusedValue e))
 
+-- one event and those after it: "its moves, ACKs and bytes sent are those of its ticks together"
+abbrev pub joined : Stepped → Stepped → Stepped
+joined first rest =
+    record {
+      state = rest .state;
+      code = Done;
+      value = 0;
+      moves = first .moves + rest .moves;
+      acks = first .acks + rest .acks;
+      sent = first .sent ++ rest .sent;
+    }
+
+-- n events of one tick
+unfoldable pub singleTicks : ℕ → State → Stepped
+singleTicks zero s = ended s Done 0
+singleTicks (suc n) s = joined (access s (Ticks 1)) (singleTicks n ((access s (Ticks 1)) .state))
+
+-- R-1: "An event of n ticks leaves the chip as n events of one tick would"; an event of 0 ticks is an event without a tick
+unfoldable pub ticksTaken : ℕ → State → Stepped
+ticksTaken zero s = access s (Ticks 0)
+ticksTaken (suc n) s = singleTicks (suc n) s
+
 -- kind 0, "power reset", ends at once too; its code is 0
 unfoldable pub stepEvent : State → Event → Stepped
 stepEvent s PowerReset = ended powerReset Done 0
@@ -51,7 +73,7 @@ stepEvent s (Read offset) = access s (Read offset)
 stepEvent s (WordWrite word) = access s (WordWrite word)
 stepEvent s WordRead = access s WordRead
 stepEvent s (Drive lines) = access s (Drive lines)
-stepEvent s (Ticks n) = access s (Ticks n)
+stepEvent s (Ticks n) = ticksTaken n s
 
 unfoldable pub stepDecoded : State → Decoded → Stepped
 stepDecoded s (Well e) = stepEvent s e

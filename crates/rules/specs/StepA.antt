@@ -2,19 +2,24 @@
 use Prim.Native.Nat.{ℕ, _+_, _%_}
 use mathlib.Core.Bool.{Bool, true, false, not, _&&_, _||_, cond}
 use mathlib.Core.List.{List, [], _++_}
+use lib.Dec.{leb}
 use lib.ListN.{drop}
 use Rattle.rules.specs.Numbers.{bit}
 use Rattle.rules.specs.Registers.{scsiseqOf, sxfrctl0Of, sxfrctl1Of, scsisigOf, scsirateOf, scsiidOf, simode0Of, simode1Of, dmacntrl0Of, dmacntrl1Of}
 use Rattle.rules.specs.State.{State, Transfer}
-use Rattle.rules.specs.Seen.{ioSeen, reqSeen, automatic, matched}
+use Rattle.rules.specs.Seen.{ioSeen, reqSeen, automatic, matched, isPhase}
 use Rattle.rules.specs.Events.{writes, reads, valueOf, linesAfter, offered, asked, portWrite}
 use Rattle.rules.specs.Counter.{counterStep, counterWith}
+use Rattle.rules.specs.Sequencer.{selectionAsked, selectionWith, latchEnabled}
 use Rattle.rules.specs.Stack.{stackRead, stackWritten, pointed}
 use Rattle.rules.specs.declared.registers.Scsisig.{Scsisig}
 use Rattle.rules.specs.declared.registers.Registers.{Registers}
 use Rattle.rules.specs.declared.chip.Status.{Status}
 use Rattle.rules.specs.declared.chip.Latches.{Latches}
 use Rattle.rules.specs.declared.chip.Stack.{Stack}
+use Rattle.rules.specs.declared.chip.Phase.the-variants.{Idle, Selecting, Holding}
+use Rattle.rules.specs.declared.chip.Selection.{Selection}
+use Rattle.rules.specs.declared.chip.Sequencer.{Sequencer}
 use Rattle.rules.specs.declared.map.Register.the-variants.{SCSISEQ, SXFRCTL0, SXFRCTL1, SCSISIGO, SCSIRATE, SCSIID, SCSIDAT, STCNT0, STCNT1, STCNT2, CLRSINT0, CLRSINT1, CLRSERR, SIMODE0, SIMODE1, DMACNTRL0, DMACNTRL1, BRSTCNTRL, STACK, ID}
 use Rattle.rules.specs.declared.counts.Direction.the-variants.{Up}
 use Rattle.rules.specs.declared.records.Event.{Event}
@@ -147,6 +152,47 @@ stackA enstk32 k e =
 unfoldable pub identityA : ℕ → Event → ℕ
 identityA n e = cond (reads e ID) ((n + 1) % 32) n
 
+-- R-1: "a write to 340h that leaves it not asked, while holding, or while selecting with ENSTIMER 0, makes the sequencer idle, and
+-- SELINGO 0 if it was selecting: the processor gives up"; r are the registers after A
+unfoldable pub givesUp : Registers → Sequencer → Event → Bool
+givesUp r q e =
+    writes e SCSISEQ && not (selectionAsked r)
+    && (isPhase Holding (q .phase) || (isPhase Selecting (q .phase) && not (r .sxfrctl1 .enstimer)))
+
+-- "A write of 34Bh bit 5 while SELDI is 1 and the quiet ticks stand at 8 clears SELDI at once; else it notes." "34Ch bit 7 clears
+-- SELTO, status and latch."
+unfoldable pub selectionA : Registers → ℕ → Sequencer → Event → Selection
+selectionA r quiet q e =
+    let t = q .status in
+    selectionWith (t .seldo) (not (clearsLatch e 5 && leb 8 quiet) && t .seldi)
+    (not (givesUp r q e && isPhase Selecting (q .phase)) && t .selingo) (not (clears e 7) && t .selto)
+
+-- "Noted is 0 whenever SELDI is 0."
+unfoldable pub notedA : ℕ → Sequencer → Event → Bool
+notedA quiet q e = cond (clearsLatch e 5) (not (leb 8 quiet) && q .status .seldi) (q .noted)
+
+-- "34Bh bits 6, 5, 4 clear the latches only"; a latch sets "when the enable rises while status is 1"
+unfoldable pub selectionLatchesA : Registers → Registers → Selection → Selection → Event → Selection
+selectionLatchesA before r t k e =
+    selectionWith
+    (latchEnabled (before .simode0 .enseldo) (r .simode0 .enseldo) (t .seldo) (not (clearsLatch e 6) && k .seldo))
+    (latchEnabled (before .simode0 .enseldi) (r .simode0 .enseldi) (t .seldi) (not (clearsLatch e 5) && k .seldi))
+    (latchEnabled (before .simode0 .enselingo) (r .simode0 .enselingo) (t .selingo) (not (clearsLatch e 4) && k .selingo))
+    (latchEnabled (before .simode1 .enseltimo) (r .simode1 .enseltimo) (t .selto) (not (clears e 7) && k .selto))
+
+-- before are the registers at the end of the last event
+unfoldable pub sequencerA : Registers → ℕ → Sequencer → Event → Sequencer
+sequencerA before quiet q e =
+    let r = registersA before e in
+    record {
+      phase = cond (givesUp r q e) Idle (q .phase);
+      ticks = cond (givesUp r q e) 0 (q .ticks);
+      noted = notedA quiet q e;
+      selid = q .selid;
+      status = selectionA r quiet q e;
+      latches = selectionLatchesA before r (selectionA r quiet q e) (q .latches) e;
+    }
+
 -- the state after A
 unfoldable pub afterA : State → Event → State
 afterA s e =
@@ -160,4 +206,5 @@ afterA s e =
       keptbad = s .keptbad;
       quiet = s .quiet;
       identity = identityA (s .identity) e;
+      sequencer = sequencerA (s .registers) (s .quiet) (s .sequencer) e;
     }

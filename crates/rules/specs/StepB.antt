@@ -1,4 +1,4 @@
--- "B. Edges, in this order": five steps, each handed the state that the one before it left. `last` is the state at the end of the
+-- "B. Edges, in this order": five steps and, before the last, R-1's sequencer, each handed the state that the one before it left. `last` is the state at the end of the
 -- last event, `now` the state that a step is handed: a line rises if it is seen now and was not seen last.
 use Prim.Native.Nat.{ℕ, _+_, min}
 use mathlib.Core.Bool.{Bool, true, false, not, _&&_, _||_, cond}
@@ -7,9 +7,10 @@ use lib.Dec.{eqb, leb, ltb}
 use lib.ListN.{length}
 use Rattle.rules.specs.Registers.{scsisigOf}
 use Rattle.rules.specs.State.{State}
-use Rattle.rules.specs.Changed.{withRegisters, withStatus, withLatches, withKept, withQuiet, withScsi, withOffset, withAck}
+use Rattle.rules.specs.Changed.{withRegisters, withStatus, withLatches, withKept, withQuiet, withSequencer, withScsi, withOffset, withAck}
 use Rattle.rules.specs.Seen.{rstSeen, selSeen, bsySeen, ioSeen, reqSeen, connected, matched, mismatched, path, synchronous, limit, dataSeen, parityEven}
 use Rattle.rules.specs.Events.{ticksOf}
+use Rattle.rules.specs.Sequencer.{selectionFreed, sequenced}
 use Rattle.rules.specs.StepA.{withAtn, afterA}
 use Rattle.rules.specs.declared.registers.Scsiseq.{Scsiseq}
 use Rattle.rules.specs.declared.registers.Sxfrctl0.{Sxfrctl0}
@@ -188,7 +189,7 @@ quietAfter ticks now =
 unfoldable pub busFree : ℕ → State → Bool
 busFree ticks now = leb 8 (quietAfter ticks now) && not (leb 8 (now .quiet))
 
--- "BUSFREE; 343h and offset 0; automatic ACK released"
+-- "BUSFREE; 343h and offset 0; automatic ACK released"; R-1: "bus free also clears SELDO, and SELDI where noted"
 unfoldable pub busFreed : State → State
 busFreed now =
     let r = now .registers in
@@ -204,12 +205,35 @@ busFreed now =
       syncerr = k .syncerr;
       fwerr = k .fwerr;
     })
-    (withRegisters (registersWith (r .scsiseq) (r .sxfrctl0) (scsisigOf false 0) r) (offsetCleared now))
+    (withRegisters (registersWith (r .scsiseq) (r .sxfrctl0) (scsisigOf false 0) r)
+    (withSequencer (selectionFreed (now .sequencer)) (offsetCleared now)))
 
 unfoldable pub afterQuietTicks : ℕ → State → State
 afterQuietTicks ticks now =
     let quiet = withQuiet (quietAfter ticks now) now in
     cond (busFree ticks now) (busFreed quiet) quiet
+
+-- R-1: "Then, before PHASECHG, the sequencer"; "ENSELO becomes 0" and "343h bit 4 is set" by it
+abbrev pub scsiseqWith : Bool → Scsiseq → Scsiseq
+scsiseqWith enselo q =
+    record {
+      temodeo = q .temodeo;
+      enselo = enselo;
+      enseli = q .enseli;
+      enrseli = q .enrseli;
+      enautoatno = q .enautoatno;
+      enautoatni = q .enautoatni;
+      enautoatnp = q .enautoatnp;
+      scsirsto = q .scsirsto;
+    }
+
+unfoldable pub afterSequencer : Bool → ℕ → State → State
+afterSequencer tick before now =
+    let r = now .registers in
+    let x = sequenced tick before now in
+    withSequencer (x .sequencer)
+    (withRegisters (registersWith (scsiseqWith (x .enselo) (r .scsiseq)) (r .sxfrctl0) (withAtn (x .atno) (r .scsisig)) r)
+    (withQuiet (x .quiet) now))
 
 -- 5. "PHASECHG is set when "connected and not matched" is true here and was false at the end of the last event."
 unfoldable pub phaseChanges : State → State → Bool
@@ -234,10 +258,15 @@ phaseChanged now =
 unfoldable pub afterPhaseChanges : State → State → State
 afterPhaseChanges last now = cond (phaseChanges last now) (phaseChanged now) now
 
--- THE FIVE, IN THIS ORDER
+-- what stands before the sequencer: it "sees the phase as it was before" it
+unfoldable pub firstFour : State → ℕ → State → State
+firstFour last ticks now =
+    afterQuietTicks ticks (afterReqRises last (afterRstRises last (afterReqFalls last now)))
+
+-- ALL OF B, IN THIS ORDER
 unfoldable pub inOrder : State → ℕ → State → State
 inOrder last ticks now =
-    afterPhaseChanges last (afterQuietTicks ticks (afterReqRises last (afterRstRises last (afterReqFalls last now))))
+    afterPhaseChanges last (afterSequencer (ltb 0 ticks) (last .quiet) (firstFour last ticks now))
 
 -- the state after B: s is the state at the end of the last event
 unfoldable pub afterB : State → Event → State

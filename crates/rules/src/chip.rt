@@ -50,6 +50,37 @@ pub struct Stack {
     pub pointer: u8,
 }
 
+// R-1: where the sequencer stands; `phaseNumber` in specs/Seen.antt gives each its number.
+pub enum Phase {
+    Idle,
+    Waiting,
+    Arbitrating,
+    Clearing,
+    Selecting,
+    Holding,
+    Answering,
+    Answered,
+}
+
+// SELDO, SELDI and SELINGO of 34Bh and SELTO of 34Ch: the statuses, or their latches.
+pub struct Selection {
+    pub seldo: bool,
+    pub seldi: bool,
+    pub selingo: bool,
+    pub selto: bool,
+}
+
+// The sequencer of R-1; ticks: those spent in the phase; noted: 34Bh bit 5 was written while SELDI was 1; selid: the byte that
+// others drove when the chip was last reselected.
+pub struct Sequencer {
+    pub phase: Phase,
+    pub ticks: u32,
+    pub noted: bool,
+    pub selid: u8,
+    pub status: Selection,
+    pub latches: Selection,
+}
+
 // keptbad: the parity of the last inbound byte was bad (R-2); quiet: ticks for which BSY and SEL were not seen, up to 8;
 // identity: the place in the ID string.
 pub struct Chip {
@@ -62,6 +93,7 @@ pub struct Chip {
     pub keptbad: bool,
     pub quiet: u8,
     pub identity: u8,
+    pub sequencer: Sequencer,
 }
 
 // What settling looks at and does not change.
