@@ -6,6 +6,7 @@ ghost use Rattle.rules.specs.Chips.{pathOf};
 ghost use Rattle.image.specs.Image.{registersAt, linesAt, transferAt, IsImage};
 ghost use Rattle.chips.specs.HeadRuns.{stackAt};
 ghost use Rattle.image.specs.Layout.{hostBytesPlace, imageSize, scsiBytesPlace, stackBytesPlace};
+use image::bytes::number_of;
 use image::layout::ACK;
 use image::layout::BRSTCNTRL;
 use image::layout::COUNTER_HIGH;
@@ -91,12 +92,6 @@ pub fn registers_at(m: &Image) -> Registers
 }
 
 // The counter from its three bytes, the lowest first.
-fn counter_of(b0: u8, b1: u8, b2: u8) -> u32
-    ensures { λ r. ⌜ r ≡ b0 + 256 * b1 + 65536 * b2 ⌝ }
-{
-    (b0 as u32) + 256 * (b1 as u32) + 65536 * (b2 as u32)
-}
-
 fn count_of(b: u8) -> usize
     ensures { λ r. ⌜ r ≡ b ⌝ }
 {
@@ -165,7 +160,7 @@ pub fn path_at(m: &Image) -> DataPath
     DataPath {
         host: host,
         scsi: scsi,
-        counter: counter_of(m[COUNTER_LOW], m[COUNTER_MIDDLE], m[COUNTER_HIGH]),
+        counter: number_of(m[COUNTER_LOW], m[COUNTER_MIDDLE], m[COUNTER_HIGH]),
         offset: m[OFFSET],
         ack: m[ACK] == 1,
         last: m[LAST],

@@ -23,9 +23,12 @@ use Rattle.rules.specs.declared.registers.Dmacntrl0.{Dmacntrl0}
 use Rattle.rules.specs.declared.registers.Dmacntrl1.{Dmacntrl1}
 use Rattle.rules.specs.declared.chip.Status.{Status}
 use Rattle.rules.specs.declared.chip.Latches.{Latches}
+use Rattle.rules.specs.declared.chip.Phase.{Phase}
+use Rattle.rules.specs.declared.chip.Phase.the-variants.{Idle, Waiting, Arbitrating, Clearing, Selecting, Holding, Answering, Answered}
+use Rattle.rules.specs.Seen.{phaseNumber}
 use Rattle.laws.proofs.Bits.{one-below}
 use Rattle.laws.proofs.Lists.{padded-length, padded-take}
-use Rattle.image.specs.Image.{scsisigByte, scsirateByte, scsiidByte, statusByte, statusOf, latchesByte, latchesOf, imageOf, registersAt, linesAt, transferAt, stateAt, IsImage}
+use Rattle.image.specs.Image.{scsisigByte, scsirateByte, scsiidByte, statusByte, statusOf, latchesByte, latchesOf, phaseOf, imageOf, registersAt, linesAt, transferAt, sequencerAt, stateAt, IsImage}
 use Rattle.image.proofs.EightBits.{is-one, bit-0, bit-1, bit-2, bit-3, bit-4, bit-5, bit-6, bit-7}
 use Rattle.image.specs.Layout.{hostBytesPlace, scsiBytesPlace, stackBytesPlace}
 
@@ -208,6 +211,87 @@ scsiid-back r h k =
 pub counter-back : (n : ℕ) → n < counterSize → counterByte 0 n + 256 * counterByte 1 n + 65536 * counterByte 2 n ≡ n
 counter-back n h = omega arith
 
+-- a phase by its number
+pub phase-below : (p : Phase) → phaseNumber p < 8
+unfolding phaseNumber
+phase-below Idle = omega arith
+phase-below Waiting = omega arith
+phase-below Arbitrating = omega arith
+phase-below Clearing = omega arith
+phase-below Selecting = omega arith
+phase-below Holding = omega arith
+phase-below Answering = omega arith
+phase-below Answered = omega arith
+
+pub phase-back : (p : Phase) → phaseOf (phaseNumber p) ≡ p
+unfolding phaseNumber
+phase-back Idle = refl
+phase-back Waiting = refl
+phase-back Arbitrating = refl
+phase-back Clearing = refl
+phase-back Selecting = refl
+phase-back Holding = refl
+phase-back Answering = refl
+phase-back Answered = refl
+
+-- five bits above a number of three bits
+module _ (b7 b6 b5 b4 b3 : Bool) (n : ℕ) (h : n < 8) where
+  abbrev above : ℕ
+  above = byteOf b7 b6 b5 b4 b3 false false false + n
+
+  above-7 : bit above 7 ≡ b7
+  above-7 =
+      let e : above / 2 ^ 7 % 2 ≡ one b7 = omega (arith, one-below b7, one-below b6, one-below b5, one-below b4, one-below b3) in
+      rw e (is-one b7)
+
+  above-6 : bit above 6 ≡ b6
+  above-6 =
+      let e : above / 2 ^ 6 % 2 ≡ one b6 = omega (arith, one-below b7, one-below b6, one-below b5, one-below b4, one-below b3) in
+      rw e (is-one b6)
+
+  above-5 : bit above 5 ≡ b5
+  above-5 =
+      let e : above / 2 ^ 5 % 2 ≡ one b5 = omega (arith, one-below b7, one-below b6, one-below b5, one-below b4, one-below b3) in
+      rw e (is-one b5)
+
+  above-4 : bit above 4 ≡ b4
+  above-4 =
+      let e : above / 2 ^ 4 % 2 ≡ one b4 = omega (arith, one-below b7, one-below b6, one-below b5, one-below b4, one-below b3) in
+      rw e (is-one b4)
+
+  above-3 : bit above 3 ≡ b3
+  above-3 =
+      let e : above / 2 ^ 3 % 2 ≡ one b3 = omega (arith, one-below b7, one-below b6, one-below b5, one-below b4, one-below b3) in
+      rw e (is-one b3)
+
+  above-low : above % 8 ≡ n
+  above-low = omega arith
+
+pub sequencer-back : (s : State) → s .sequencer .ticks < counterSize → sequencerAt (imageOf s) ≡ s .sequencer
+unfolding imageOf
+sequencer-back s h =
+    let q = s .sequencer in
+    let t = q .status in
+    let k = q .latches in
+    let n = phaseNumber (q .phase) in
+    let f = phase-below (q .phase) in
+    let b = bits false false false false (k .seldo) (k .seldi) (k .selingo) (k .selto) in
+    λ i.
+    record {
+      phase = (ap phaseOf (above-low (t .seldo) (t .seldi) (t .selto) (q .noted) (t .selingo) n f) ∙ phase-back (q .phase)) i;
+      ticks = counter-back (q .ticks) h i;
+      noted = above-4 (t .seldo) (t .seldi) (t .selto) (q .noted) (t .selingo) n f i;
+      selid = q .selid;
+      status =
+          record {
+            seldo = above-7 (t .seldo) (t .seldi) (t .selto) (q .noted) (t .selingo) n f i;
+            seldi = above-6 (t .seldo) (t .seldi) (t .selto) (q .noted) (t .selingo) n f i;
+            selingo = above-3 (t .seldo) (t .seldi) (t .selto) (q .noted) (t .selingo) n f i;
+            selto = above-5 (t .seldo) (t .seldi) (t .selto) (q .noted) (t .selingo) n f i;
+          };
+      latches = record { seldo = b .three i; seldi = b .two i; selingo = b .one i; selto = b .zero i };
+    }
+
 pub lines-back : (s : State) → linesAt (imageOf s) ≡ s .lines
 unfolding imageOf
 lines-back s =
@@ -309,6 +393,7 @@ module _ (s : State) (f : InRange s) where
         keptbad = is-one (s .keptbad) i;
         quiet = s .quiet;
         identity = s .identity;
+        sequencer = sequencer-back s (f .sequencer) i;
       }
 
   pub is-image : InBytes s → IsImage (imageOf s)

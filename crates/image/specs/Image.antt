@@ -10,7 +10,7 @@ use Rattle.rules.specs.Counter.{counterByte}
 use Rattle.rules.specs.Registers.{scsiseqOf, scsiseqByte, sxfrctl0Of, sxfrctl0Byte, sxfrctl1Of, sxfrctl1Byte, scsisigOf, scsirateOf, scsiidOf, simode0Of, simode0Byte, simode1Of, simode1Byte, dmacntrl0Of, dmacntrl0Byte, dmacntrl1Of, dmacntrl1Byte}
 use Rattle.rules.specs.State.{State, Transfer}
 use Rattle.rules.specs.Ranges.{InRange, InBytes}
-use Rattle.image.specs.Layout.{ackPlace, brstcntrlPlace, controlPlace, counterHighPlace, counterLowPlace, counterMiddlePlace, dataPlace, dmacntrl0Place, dmacntrl1Place, hostBytesPlace, hostCountPlace, identityPlace, keptPlace, lastPlace, latchesPlace, offsetPlace, pointerPlace, quietPlace, scsiBytesPlace, scsiCountPlace, scsidatPlace, scsiidPlace, scsiratePlace, scsiseqPlace, scsisigPlace, simode0Place, simode1Place, stackBytesPlace, statusPlace, sxfrctl0Place, sxfrctl1Place, upperPlace}
+use Rattle.image.specs.Layout.{ackPlace, brstcntrlPlace, controlPlace, counterHighPlace, counterLowPlace, counterMiddlePlace, dataPlace, dmacntrl0Place, dmacntrl1Place, hostBytesPlace, hostCountPlace, identityPlace, keptPlace, lastPlace, latchesPlace, offsetPlace, pointerPlace, quietPlace, scsiBytesPlace, scsiCountPlace, scsidatPlace, scsiidPlace, scsiratePlace, scsiseqPlace, scsisigPlace, selectionLatchesPlace, selidPlace, sequencerPlace, simode0Place, simode1Place, stackBytesPlace, statusPlace, sxfrctl0Place, sxfrctl1Place, ticksHighPlace, ticksLowPlace, ticksMiddlePlace, upperPlace}
 use Rattle.rules.specs.declared.registers.Scsisig.{Scsisig}
 use Rattle.rules.specs.declared.registers.Scsirate.{Scsirate}
 use Rattle.rules.specs.declared.registers.Scsiid.{Scsiid}
@@ -18,6 +18,11 @@ use Rattle.rules.specs.declared.registers.Registers.{Registers}
 use Rattle.rules.specs.declared.records.Lines.{Lines}
 use Rattle.rules.specs.declared.chip.Status.{Status}
 use Rattle.rules.specs.declared.chip.Latches.{Latches}
+use Rattle.rules.specs.declared.chip.Phase.{Phase}
+use Rattle.rules.specs.declared.chip.Phase.the-variants.{Idle, Waiting, Arbitrating, Clearing, Selecting, Holding, Answering, Answered}
+use Rattle.rules.specs.declared.chip.Selection.{Selection}
+use Rattle.rules.specs.declared.chip.Sequencer.{Sequencer}
+use Rattle.rules.specs.Seen.{phaseNumber}
 
 -- bytes that no register read gives: 343h and 344h, 345h as written
 abbrev pub scsisigByte : Scsisig → ℕ
@@ -60,6 +65,22 @@ latchesOf v =
       reqinit = bit v 0;
     }
 
+-- R-1: the phase by its number, and the byte that it stands in with the statuses and what is noted
+abbrev pub phaseOf : ℕ → Phase
+phaseOf n =
+    getD (Idle ∷ Waiting ∷ Arbitrating ∷ Clearing ∷ Selecting ∷ Holding ∷ Answering ∷ Answered ∷ []) n Idle
+
+abbrev pub sequencerByte : Sequencer → ℕ
+sequencerByte q =
+    let t = q .status in
+    byteOf (t .seldo) (t .seldi) (t .selto) (q .noted) (t .selingo) false false false + phaseNumber (q .phase)
+
+abbrev pub selectionByte : Selection → ℕ
+selectionByte k = byteOf false false false false (k .seldo) (k .seldi) (k .selingo) (k .selto)
+
+abbrev pub selectionOf : ℕ → Selection
+selectionOf v = record { seldo = bit v 3; seldi = bit v 2; selingo = bit v 1; selto = bit v 0 }
+
 -- parity and RST, then the lines in the order of 343h
 abbrev pub upperByte : Lines → ℕ
 upperByte l = byteOf false false false false false false (l .parity) (l .rst)
@@ -67,7 +88,7 @@ upperByte l = byteOf false false false false false false (l .parity) (l .rst)
 abbrev pub controlByte : Lines → ℕ
 controlByte l = byteOf (l .cd) (l .io) (l .msg) (l .atn) (l .sel) (l .bsy) (l .req) (l .ack)
 
--- the 29 bytes before the FIFOs and the stack
+-- the 35 bytes before the FIFOs and the stack
 abbrev pub headOf : State → List ℕ
 headOf s =
     scsiseqByte (s .registers .scsiseq)
@@ -94,6 +115,12 @@ headOf s =
     ∷ s .identity
     ∷ s .stack .pointer
     ∷ one (s .keptbad)
+    ∷ sequencerByte (s .sequencer)
+    ∷ selectionByte (s .sequencer .latches)
+    ∷ counterByte 2 (s .sequencer .ticks)
+    ∷ counterByte 1 (s .sequencer .ticks)
+    ∷ counterByte 0 (s .sequencer .ticks)
+    ∷ s .sequencer .selid
     ∷ length (s .transfer .scsi)
     ∷ length (s .transfer .host)
     ∷ counterByte 2 (s .transfer .counter)
@@ -149,6 +176,18 @@ transferAt m =
       last = getD m lastPlace 0;
     }
 
+abbrev pub sequencerAt : List ℕ → Sequencer
+sequencerAt m =
+    let v = getD m sequencerPlace 0 in
+    record {
+      phase = phaseOf (v % 8);
+      ticks = getD m ticksLowPlace 0 + 256 * getD m ticksMiddlePlace 0 + 65536 * getD m ticksHighPlace 0;
+      noted = bit v 4;
+      selid = getD m selidPlace 0;
+      status = record { seldo = bit v 7; seldi = bit v 6; selingo = bit v 3; selto = bit v 5 };
+      latches = selectionOf (getD m selectionLatchesPlace 0);
+    }
+
 -- the state that an image stands for
 unfoldable pub stateAt : List ℕ → State
 stateAt m =
@@ -162,6 +201,7 @@ stateAt m =
       keptbad = eqb (getD m keptPlace 0) 1;
       quiet = getD m quietPlace 0;
       identity = getD m identityPlace 0;
+      sequencer = sequencerAt m;
     }
 
 -- an array that is the image of a state in range

@@ -77,32 +77,53 @@ pointerPlace = 22
 abbrev pub keptPlace : ℕ
 keptPlace = 23
 
+-- R-1: SELDO, SELDI, SELTO, noted, SELINGO, and in the lowest three bits the number of the sequencer's phase
+abbrev pub sequencerPlace : ℕ
+sequencerPlace = 24
+
+-- in the lowest four bits the latches of SELDO, SELDI, SELINGO, SELTO
+abbrev pub selectionLatchesPlace : ℕ
+selectionLatchesPlace = 25
+
+-- the ticks spent in the phase, the highest byte first; what 345h reads
+abbrev pub ticksHighPlace : ℕ
+ticksHighPlace = 26
+
+abbrev pub ticksMiddlePlace : ℕ
+ticksMiddlePlace = 27
+
+abbrev pub ticksLowPlace : ℕ
+ticksLowPlace = 28
+
+abbrev pub selidPlace : ℕ
+selidPlace = 29
+
 -- how many bytes the FIFOs hold
 abbrev pub scsiCountPlace : ℕ
-scsiCountPlace = 24
+scsiCountPlace = 30
 
 abbrev pub hostCountPlace : ℕ
-hostCountPlace = 25
+hostCountPlace = 31
 
 -- the counter, the highest byte first
 abbrev pub counterHighPlace : ℕ
-counterHighPlace = 26
+counterHighPlace = 32
 
 abbrev pub counterMiddlePlace : ℕ
-counterMiddlePlace = 27
+counterMiddlePlace = 33
 
 abbrev pub counterLowPlace : ℕ
-counterLowPlace = 28
+counterLowPlace = 34
 
 -- the SCSI FIFO, the stack, the host FIFO
 abbrev pub scsiBytesPlace : ℕ
-scsiBytesPlace = 29
+scsiBytesPlace = 35
 
 abbrev pub stackBytesPlace : ℕ
-stackBytesPlace = 37
+stackBytesPlace = 43
 
 abbrev pub hostBytesPlace : ℕ
-hostBytesPlace = 69
+hostBytesPlace = 75
 
 abbrev pub imageSize : ℕ
-imageSize = 197
+imageSize = 203

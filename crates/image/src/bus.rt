@@ -1,6 +1,6 @@
 // The lines that are seen and driven, and the words that document 01 makes of them, read off an image.
 ghost use mathlib.Core.Path.{_≡_};
-ghost use Rattle.rules.specs.Seen.{rstSeen, selSeen, bsySeen, cdSeen, ioSeen, msgSeen, reqSeen, manual, automatic, normal, connected, matched, mismatched, path, synchronous, limit, ackDriven, ackSeen, driving, dataDriven, dataSeen};
+ghost use Rattle.rules.specs.Seen.{rstSeen, selSeen, bsySeen, cdSeen, ioSeen, msgSeen, reqSeen, manual, automatic, normal, connected, matched, mismatched, path, synchronous, limit, ackDriven, ackSeen, byteDriving, byteDriven, driving, dataDriven, dataSeen};
 ghost use Rattle.image.specs.Image.{registersAt, stateAt};
 use crate::layout::ACK;
 use crate::layout::DMACNTRL0;
@@ -10,10 +10,17 @@ use crate::layout::LINES_CONTROL;
 use crate::layout::LINES_DATA;
 use crate::layout::LINES_UPPER;
 use crate::layout::SCSIDAT;
+use crate::layout::SCSIID;
 use crate::layout::SCSIRATE;
 use crate::layout::SCSISEQ;
 use crate::layout::SCSISIG;
 use crate::layout::SXFRCTL0;
+use crate::sequencer::drives_bsy;
+use crate::sequencer::drives_data;
+use crate::sequencer::drives_sel;
+use crate::sequencer::is_arbitrating;
+use crate::sequencer::phase;
+use crate::sequencer::phase_data;
 
 pub fn rst_seen(m: &Image) -> bool
     ensures { λ b. ⌜ b ≡ rstSeen (stateAt (now (m .entry))) ⌝ }
@@ -24,13 +31,13 @@ pub fn rst_seen(m: &Image) -> bool
 pub fn bsy_seen(m: &Image) -> bool
     ensures { λ b. ⌜ b ≡ bsySeen (stateAt (now (m .entry))) ⌝ }
 {
-    ((m[LINES_CONTROL] >> 2) % 2 == 1) | ((m[SCSISIG] >> 2) % 2 == 1)
+    ((m[LINES_CONTROL] >> 2) % 2 == 1) | ((m[SCSISIG] >> 2) % 2 == 1) | drives_bsy(phase(m))
 }
 
 pub fn sel_seen(m: &Image) -> bool
     ensures { λ b. ⌜ b ≡ selSeen (stateAt (now (m .entry))) ⌝ }
 {
-    ((m[LINES_CONTROL] >> 3) % 2 == 1) | ((m[SCSISIG] >> 3) % 2 == 1)
+    ((m[LINES_CONTROL] >> 3) % 2 == 1) | ((m[SCSISIG] >> 3) % 2 == 1) | drives_sel(phase(m))
 }
 
 // "never CD, IO, MSG, REQ": the chip drives none of them.
@@ -77,11 +84,11 @@ pub fn normal(m: &Image) -> bool
     !((m[SXFRCTL0] >> 3) % 2 == 1) & ((m[SXFRCTL0] >> 6) % 2 == 1)
 }
 
-// "Connected: BSY seen, SEL and RST not."
+// "Connected: BSY seen, SEL and RST not.", and "the phase is not arbitrating"
 pub fn connected(m: &Image) -> bool
     ensures { λ b. ⌜ b ≡ connected (stateAt (now (m .entry))) ⌝ }
 {
-    bsy_seen(m) & !sel_seen(m) & !rst_seen(m)
+    bsy_seen(m) & !sel_seen(m) & !rst_seen(m) & !is_arbitrating(phase(m))
 }
 
 // "Matched: connected and CD, IO, MSG equal 343h bits 7-5."
@@ -149,8 +156,8 @@ pub fn ack_seen(m: &Image) -> bool
 
 // "Data is driven when connected and IO not seen: the latch in Manual and Automatic, the byte last sent in Normal while
 // automatic ACK is on."
-pub fn driving(m: &Image) -> bool
-    ensures { λ b. ⌜ b ≡ driving (stateAt (now (m .entry))) ⌝ }
+fn byte_driving(m: &Image) -> bool
+    ensures { λ b. ⌜ b ≡ byteDriving (stateAt (now (m .entry))) ⌝ }
 {
     if manual(m) | automatic(m) | (normal(m) & (m[ACK] == 1)) {
         if (m[LINES_CONTROL] >> 6) % 2 == 1 {
@@ -164,13 +171,35 @@ pub fn driving(m: &Image) -> bool
 }
 
 // "Undriven data and parity are 0."
-pub fn data_driven(m: &Image) -> u8
-    ensures { λ b. ⌜ b ≡ dataDriven (stateAt (now (m .entry))) ⌝ }
+fn byte_driven(m: &Image) -> u8
+    ensures { λ b. ⌜ b ≡ byteDriven (stateAt (now (m .entry))) ⌝ }
 {
-    if driving(m) {
+    if byte_driving(m) {
         if normal(m) { m[LAST] } else { m[SCSIDAT] }
     } else {
         0
+    }
+}
+
+// "Where the sequencer gives data, that is what is driven, whatever the mode"
+pub fn driving(m: &Image) -> bool
+    ensures { λ b. ⌜ b ≡ driving (stateAt (now (m .entry))) ⌝ }
+{
+    if drives_data(phase(m)) {
+        true
+    } else {
+        byte_driving(m)
+    }
+}
+
+pub fn data_driven(m: &Image) -> u8
+    ensures { λ b. ⌜ b ≡ dataDriven (stateAt (now (m .entry))) ⌝ }
+{
+    let p = phase(m);
+    if drives_data(p) {
+        phase_data(p, m[SCSIID])
+    } else {
+        byte_driven(m)
     }
 }
 

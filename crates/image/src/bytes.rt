@@ -1,5 +1,6 @@
 // Bytes of an image that no register read gives, each from its parts and to them.
 ghost use mathlib.Core.Path.{_≡_};
+ghost use Prim.Native.Nat.{_+_, _*_};
 ghost use Rattle.image.specs.Image.{scsisigByte, scsirateByte, scsiidByte, statusOf, statusByte, latchesOf, latchesByte, upperByte, controlByte};
 use laws::byte_of;
 use rules::chip::Latches;
@@ -92,4 +93,11 @@ pub fn control_byte(l: Lines) -> u8
     ensures { λ r. ⌜ r ≡ controlByte l ⌝ }
 {
     byte_of(l.cd, l.io, l.msg, l.atn, l.sel, l.bsy, l.req, l.ack)
+}
+
+// A number of three bytes, the lowest first.
+pub fn number_of(b0: u8, b1: u8, b2: u8) -> u32
+    ensures { λ r. ⌜ r ≡ b0 + 256 * b1 + 65536 * b2 ⌝ }
+{
+    (b0 as u32) + 256 * (b1 as u32) + 65536 * (b2 as u32)
 }

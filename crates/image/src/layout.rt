@@ -52,26 +52,41 @@ pub const POINTER: usize = 22;
 
 pub const KEPT_PARITY: usize = 23;
 
-// how many bytes the FIFOs hold
-pub const SCSI_COUNT: usize = 24;
+// R-1: SELDO, SELDI, SELTO, noted, SELINGO, and in the lowest three bits the number of the sequencer's phase
+pub const SEQUENCER: usize = 24;
 
-pub const HOST_COUNT: usize = 25;
+// in the lowest four bits the latches of SELDO, SELDI, SELINGO, SELTO
+pub const SELECTION_LATCHES: usize = 25;
+
+// the ticks spent in the phase, the highest byte first; what 345h reads
+pub const TICKS_HIGH: usize = 26;
+
+pub const TICKS_MIDDLE: usize = 27;
+
+pub const TICKS_LOW: usize = 28;
+
+pub const SELID: usize = 29;
+
+// how many bytes the FIFOs hold
+pub const SCSI_COUNT: usize = 30;
+
+pub const HOST_COUNT: usize = 31;
 
 // the counter, the highest byte first
-pub const COUNTER_HIGH: usize = 26;
+pub const COUNTER_HIGH: usize = 32;
 
-pub const COUNTER_MIDDLE: usize = 27;
+pub const COUNTER_MIDDLE: usize = 33;
 
-pub const COUNTER_LOW: usize = 28;
+pub const COUNTER_LOW: usize = 34;
 
 // the SCSI FIFO, the stack, the host FIFO
-pub const SCSI_BYTES: usize = 29;
+pub const SCSI_BYTES: usize = 35;
 
-pub const STACK_BYTES: usize = 37;
+pub const STACK_BYTES: usize = 43;
 
-pub const HOST_BYTES: usize = 69;
+pub const HOST_BYTES: usize = 75;
 
 // the whole of it
-pub const SIZE: usize = 197;
+pub const SIZE: usize = 203;
 
 pub type Image = [u8; SIZE];

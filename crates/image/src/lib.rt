@@ -4,3 +4,4 @@ pub mod bus;
 pub mod bytes;
 pub mod copies;
 pub mod layout;
+pub mod sequencer;

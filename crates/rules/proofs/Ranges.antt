@@ -25,9 +25,10 @@ use Rattle.rules.specs.StepA.{clrstcnt, clrch, rstfifo, automaticAck, re
 use Rattle.rules.specs.declared.counts.Direction.{Direction}
 use Rattle.rules.specs.declared.counts.Direction.the-variants.{Up, Down}
 use Rattle.rules.specs.StepB.{ackReleased, registersWith, offsetCleared, busReset, beyondLimit, reqWithin, synchronousReq, storedByte, reqRisen, quietAfter, busFreed, scsiseqWith, afterSequencer, phaseChanged, afterB}
-use Rattle.rules.specs.Sequencer.{Sequenced, sequencedOf, waited, entered, selingoCleared, selingoRaised, seltoRaised, seldoRaised, seldiRaised, selectionFreed, silenced, arbitrates, selects, timesOut, reselected, connects, sequenced}
+use Rattle.rules.specs.Sequencer.{sequencedOf, waited, entered, selingoCleared, selingoRaised, seltoRaised, seldoRaised, seldiRaised, selectionFreed, silenced, arbitrates, selects, timesOut, reselected, connects, sequenced}
 use Rattle.rules.proofs.Sequencing.{Ticking, sequenced-keeps}
 use Rattle.rules.specs.declared.chip.Phase.{Phase}
+use Rattle.rules.specs.declared.chip.Sequenced.{Sequenced}
 use Rattle.rules.specs.declared.chip.Phase.the-variants.{Idle, Waiting, Arbitrating, Clearing, Selecting, Holding, Answering, Answered}
 use Rattle.rules.specs.declared.chip.Sequencer.{Sequencer}
 use Rattle.rules.specs.Seen.{isPhase}
@@ -307,15 +308,15 @@ bytes-after-a s e f i =
 id-fits : (k : ℕ) → k < 8 → 2 ^ k < 256
 id-fits k h = pow-lt h
 
-own-fits : (r : Registers) → ownId r < 256
+own-fits : (r : Scsiid) → ownId r < 256
 unfolding ownId
-own-fits r = id-fits (r .scsiid .oid % 8) (omega arith)
+own-fits r = id-fits (r .oid % 8) (omega arith)
 
-other-fits : (r : Registers) → otherId r < 256
+other-fits : (r : Scsiid) → otherId r < 256
 unfolding otherId
-other-fits r = id-fits (r .scsiid .tid % 8) (omega arith)
+other-fits r = id-fits (r .tid % 8) (omega arith)
 
-phase-data-fits : (p : Phase) (r : Registers) → phaseData p r < 256
+phase-data-fits : (p : Phase) (r : Scsiid) → phaseData p r < 256
 unfolding phaseData
 phase-data-fits Idle r = omega arith
 phase-data-fits Waiting r = omega arith
@@ -331,8 +332,8 @@ pub data-driven-fits : (s : State) → RegistersBytes (s .registers) → Transfe
 unfolding dataDriven byteDriven
 data-driven-fits s i j = go (phaseDrives (s .sequencer .phase)) (byteDriving s) (normal (s .registers))
   where
-    go : (q d n : Bool) → cond q (phaseData (s .sequencer .phase) (s .registers)) (cond d (cond n (s .transfer .last) (s .registers .scsidat)) 0) < 256
-    go true d n = phase-data-fits (s .sequencer .phase) (s .registers)
+    go : (q d n : Bool) → cond q (phaseData (s .sequencer .phase) (s .registers .scsiid)) (cond d (cond n (s .transfer .last) (s .registers .scsidat)) 0) < 256
+    go true d n = phase-data-fits (s .sequencer .phase) (s .registers .scsiid)
     go false true true = j .last
     go false true false = i .scsidat
     go false false n = omega arith

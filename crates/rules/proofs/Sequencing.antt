@@ -11,9 +11,10 @@ use Rattle.rules.specs.Numbers.{one}
 use Rattle.rules.specs.Counter.{counterSize}
 use Rattle.rules.specs.State.{State}
 use Rattle.rules.specs.Seen.{isPhase, rstSeen, bsySeen, selSeen}
-use Rattle.rules.specs.Sequencer.{busFreeDelay, arbitrationDelay, clearingDelay, settleDelay, timeout, askedBy, called, higherId, Sequenced, sequencedOf, waited, entered, selingoCleared, selingoRaised, seltoRaised, seldoRaised, seldiRaised, silenced, arbitrates, waitingFor, arbitratingFor, selects, clearingFor, timesOut, selectingFor, reselected, answeringFor, tickIn, uncalled, letGo, forestalled, connects, selected, begun, withdrawn, answers, resolved, sequenced}
+use Rattle.rules.specs.Sequencer.{busFreeDelay, arbitrationDelay, clearingDelay, settleDelay, timeout, askedBy, called, higherId, sequencedOf, waited, entered, selingoCleared, selingoRaised, seltoRaised, seldoRaised, seldiRaised, silenced, arbitrates, waitingFor, arbitratingFor, selects, clearingFor, timesOut, selectingFor, reselected, answeringFor, tickIn, uncalled, letGo, forestalled, connects, selected, begun, withdrawn, answers, resolved, sequenced}
 use Rattle.rules.specs.declared.registers.Registers.{Registers}
 use Rattle.rules.specs.declared.chip.Phase.{Phase}
+use Rattle.rules.specs.declared.chip.Sequenced.{Sequenced}
 use Rattle.rules.specs.declared.chip.Phase.the-variants.{Idle, Waiting, Arbitrating, Clearing, Selecting, Holding, Answering, Answered}
 use Rattle.rules.proofs.Logic.{cond-case}
 

@@ -7,6 +7,7 @@ use lib.Dec.{eqb}
 use lib.Bits.{bitOr}
 use Rattle.rules.specs.Numbers.{one, ones, even}
 use Rattle.rules.specs.State.{State}
+use Rattle.rules.specs.declared.registers.Scsiid.{Scsiid}
 use Rattle.rules.specs.declared.registers.Registers.{Registers}
 use Rattle.rules.specs.declared.chip.Phase.{Phase}
 use Rattle.rules.specs.declared.chip.Phase.the-variants.{Idle, Waiting, Arbitrating, Clearing, Selecting, Holding, Answering, Answered}
@@ -60,14 +61,14 @@ phaseDrives Answering = false
 phaseDrives Answered = false
 
 -- "own = 1 shifted by OID, other = 1 shifted by TID (345h as written)", of three bits each
-unfoldable pub ownId : Registers → ℕ
-ownId r = 2 ^ (r .scsiid .oid % 8)
+unfoldable pub ownId : Scsiid → ℕ
+ownId r = 2 ^ (r .oid % 8)
 
-unfoldable pub otherId : Registers → ℕ
-otherId r = 2 ^ (r .scsiid .tid % 8)
+unfoldable pub otherId : Scsiid → ℕ
+otherId r = 2 ^ (r .tid % 8)
 
 -- the data: arbitrating, clearing own; selecting, holding own and other
-unfoldable pub phaseData : Phase → Registers → ℕ
+unfoldable pub phaseData : Phase → Scsiid → ℕ
 phaseData Idle r = 0
 phaseData Waiting r = 0
 phaseData Arbitrating r = ownId r
@@ -161,7 +162,7 @@ unfoldable pub driving : State → Bool
 driving s = phaseDrives (s .sequencer .phase) || byteDriving s
 
 unfoldable pub dataDriven : State → ℕ
-dataDriven s = cond (phaseDrives (s .sequencer .phase)) (phaseData (s .sequencer .phase) (s .registers)) (byteDriven s)
+dataDriven s = cond (phaseDrives (s .sequencer .phase)) (phaseData (s .sequencer .phase) (s .registers .scsiid)) (byteDriven s)
 
 -- "Parity driven makes the ones odd."
 unfoldable pub parityDriven : State → Bool

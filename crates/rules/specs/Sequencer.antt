@@ -13,6 +13,7 @@ use Rattle.rules.specs.declared.chip.Phase.{Phase}
 use Rattle.rules.specs.declared.chip.Phase.the-variants.{Idle, Waiting, Arbitrating, Clearing, Selecting, Holding, Answering, Answered}
 use Rattle.rules.specs.declared.chip.Selection.{Selection}
 use Rattle.rules.specs.declared.chip.Sequencer.{Sequencer}
+use Rattle.rules.specs.declared.chip.Sequenced.{Sequenced}
 
 -- THE DELAYS, in ticks: "bus free delay 16 ticks, arbitration 48, bus clear 16, bus settle 8"
 abbrev pub busFreeDelay : ℕ
@@ -62,12 +63,6 @@ latchEnabled before enable status kept =
     latched (record { kept = kept; enable = enable; enabledBefore = before; status = status; raised = false })
 
 -- WHAT THE SEQUENCER MAY CHANGE: itself, ENSELO (340h bit 6), ATN (343h bit 4) and the quiet ticks
-pub record Sequenced : Type 0 where
-  pub sequencer : Sequencer
-  pub enselo : Bool
-  pub atno : Bool
-  pub quiet : ℕ
-
 unfoldable pub sequencedOf : State → Sequenced
 sequencedOf s =
     record {

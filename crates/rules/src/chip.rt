@@ -81,6 +81,14 @@ pub struct Sequencer {
     pub latches: Selection,
 }
 
+// What the sequencer may change: itself, ENSELO (340h bit 6), ATN (343h bit 4) and the quiet ticks.
+pub struct Sequenced {
+    pub sequencer: Sequencer,
+    pub enselo: bool,
+    pub atno: bool,
+    pub quiet: u8,
+}
+
 // keptbad: the parity of the last inbound byte was bad (R-2); quiet: ticks for which BSY and SEL were not seen, up to 8;
 // identity: the place in the ID string.
 pub struct Chip {

@@ -6,4 +6,6 @@ use Rattle.image.proofs.bus.sel_seen.Tie as tie
 
 pub sel-seen-spec : {M : Type 1} → statement M
 unfolding selSeen stateAt
-sel-seen-spec = tie.close (tie.spec (λ c. search needs) (λ c. search needs) (λ c. search needs))
+sel-seen-spec =
+    tie.close
+    (tie.spec (λ c. search needs) (λ c. search needs) (λ c κs. search needs) (λ c κs. search needs) (λ c. rw (c .drives-sel .ensures, c .before .phase .ensures)))
