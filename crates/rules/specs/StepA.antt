@@ -171,14 +171,18 @@ selectionA r quiet q e =
 unfoldable pub notedA : ℕ → Sequencer → Event → Bool
 notedA quiet q e = cond (clearsLatch e 5) (not (leb 8 quiet) && q .status .seldi) (q .noted)
 
--- "34Bh bits 6, 5, 4 clear the latches only"; a latch sets "when the enable rises while status is 1"
+-- "34Bh bits 6, 5, 4 clear the latches only"; a latch sets "when the enable rises while status is 1": a write of 350h or 351h
 unfoldable pub selectionLatchesA : Registers → Registers → Selection → Selection → Event → Selection
 selectionLatchesA before r t k e =
     selectionWith
-    (latchEnabled (before .simode0 .enseldo) (r .simode0 .enseldo) (t .seldo) (not (clearsLatch e 6) && k .seldo))
-    (latchEnabled (before .simode0 .enseldi) (r .simode0 .enseldi) (t .seldi) (not (clearsLatch e 5) && k .seldi))
-    (latchEnabled (before .simode0 .enselingo) (r .simode0 .enselingo) (t .selingo) (not (clearsLatch e 4) && k .selingo))
-    (latchEnabled (before .simode1 .enseltimo) (r .simode1 .enseltimo) (t .selto) (not (clears e 7) && k .selto))
+    (cond (writes e SIMODE0) (latchEnabled (before .simode0 .enseldo) (r .simode0 .enseldo) (t .seldo) (k .seldo))
+    (not (clearsLatch e 6) && k .seldo))
+    (cond (writes e SIMODE0) (latchEnabled (before .simode0 .enseldi) (r .simode0 .enseldi) (t .seldi) (k .seldi))
+    (not (clearsLatch e 5) && k .seldi))
+    (cond (writes e SIMODE0) (latchEnabled (before .simode0 .enselingo) (r .simode0 .enselingo) (t .selingo) (k .selingo))
+    (not (clearsLatch e 4) && k .selingo))
+    (cond (writes e SIMODE1) (latchEnabled (before .simode1 .enseltimo) (r .simode1 .enseltimo) (t .selto) (k .selto))
+    (not (clears e 7) && k .selto))
 
 -- before are the registers at the end of the last event
 unfoldable pub sequencerA : Registers → ℕ → Sequencer → Event → Sequencer
