@@ -1,6 +1,7 @@
 pub mod Computes
 pub mod Logic
 pub mod Sequencing
+pub mod Driving
 pub mod InOrder
 pub mod Marked
 pub mod Settling

@@ -2,11 +2,11 @@
 use Prim.Native.Nat.{ℕ, zero, suc}
 use mathlib.Core.Path.{_≡_, refl, sym, ap, _∙_}
 use mathlib.Core.Bool.{Bool, true, false, not, _&&_, cond, Bool·beq}
-use lib.Bits.{or-zero-r}
 use Rattle.rules.specs.State.{State}
-use Rattle.rules.specs.Seen.{normal, connected, matched, path, driving, dataDriven, dataSeen}
+use Rattle.rules.specs.Seen.{normal, connected, matched, path}
 use Rattle.rules.specs.StepC.{Settling, conditions, canMove, move, canSynchronous, canAsynchronous, canHandshake, handshake, turn, settle}
 use Rattle.rules.specs.declared.chip.Conditions.{Conditions}
+use Rattle.rules.proofs.Driving.{inbound-data}
 use Rattle.rules.proofs.Logic.{never, left-true, right-true}
 use Rattle.settling.specs.Looks.{withByte, lookedAt}
 
@@ -45,12 +45,7 @@ agree true b e h = refl
 agree false true e h = h
 agree false false e h = e
 
-undriven : (a i d : Bool) → i ≡ true → (a && not i && d) ≡ false
-undriven true true d e = refl
-undriven true false d e = absurd (never e)
-undriven false i d e = refl
-
--- inbound in the phase expected IO is seen, and nothing is driven
+-- inbound in the phase expected the chip is connected and IO is seen
 module _ (s : State) where
   io-seen : path (s .registers) ≡ true → matched s ≡ true → s .registers .dmacntrl0 .write ≡ false → s .lines .io ≡ true
   unfolding path matched
@@ -59,16 +54,17 @@ module _ (s : State) where
       agree (s .lines .io) (g .ioexp) (differ (s .registers .dmacntrl0 .write) (g .ioexp) w (right-true (normal (s .registers)) _ p))
       (right-true (connected s && Bool·beq (s .lines .cd) (g .cdexp)) _ (left-true _ (Bool·beq (s .lines .msg) (g .msgexp)) m))
 
-  lines-seen : s .lines .io ≡ true → s .lines .byte ≡ dataSeen s
-  unfolding driving dataDriven dataSeen
-  lines-seen e = rw (undriven _ (s .lines .io) _ e) (sym (or-zero-r (s .lines .byte)))
+  joined : matched s ≡ true → connected s ≡ true
+  unfolding matched
+  joined m =
+      left-true (connected s) _ (left-true (connected s && Bool·beq (s .lines .cd) (s .registers .scsisig .cdexp)) _ (left-true _ (Bool·beq (s .lines .msg) (s .registers .scsisig .msgexp)) m))
 
 pub looked-ends : (s : State) (n : ℕ) (x : Settling) → settle (lookedAt s) n x ≡ settle (conditions s) n x
 unfolding lookedAt conditions
 looked-ends s n x =
     settle-same (s .lines .byte) (conditions s)
     (λ e o.
-    lines-seen s
+    sym (inbound-data s (joined s (right-true (s .registers .sxfrctl0 .scsien && path (s .registers)) (matched s) e))
     (io-seen s (right-true (s .registers .sxfrctl0 .scsien) _ (left-true _ (matched s) e))
-    (right-true (s .registers .sxfrctl0 .scsien && path (s .registers)) (matched s) e) o))
+    (right-true (s .registers .sxfrctl0 .scsien && path (s .registers)) (matched s) e) o)))
     n x

@@ -19,8 +19,8 @@ sized s f k = record { head = refl; scsi = f .scsi; stack = k .size; host = f .h
 pub kept : (m m′ : List ℕ) (t : Transfer) → IsImage m → TransferFits t → TransferBytes t → m′ ≡ imageOf (withTransfer t (stateAt m)) → IsImage m′ × (stateAt m′ ≡ withTransfer t (stateAt m))
 kept m m′ t i f b e =
     let s : State = withTransfer t (stateAt m) in
-    let r : InRange s = record { registers = i .range .registers; transfer = f; stack = i .range .stack; quiet = i .range .quiet; identity = i .range .identity } in
-    let y : InBytes s = record { lines = i .bytes .lines; registers = i .bytes .registers; transfer = b; stack = i .bytes .stack } in
+    let r : InRange s = record { registers = i .range .registers; transfer = f; stack = i .range .stack; quiet = i .range .quiet; identity = i .range .identity; sequencer = i .range .sequencer } in
+    let y : InBytes s = record { lines = i .bytes .lines; registers = i .bytes .registers; transfer = b; stack = i .bytes .stack; selid = i .bytes .selid } in
     (subst IsImage (sym e) (is-image s r y), ap stateAt e ∙ read-back s r)
 
 -- the length of an image, and its offset
