@@ -1,14 +1,17 @@
 pub mod Computes
 pub mod Logic
 pub mod Sequencing
+pub mod Resolving
 pub mod InOrder
 pub mod Marked
 pub mod Settling
 pub mod Rest
 pub mod Refusals
 pub mod Ranges
+pub mod Still
 pub mod Beliefs
 pub mod Effects
 pub mod Counting
 pub mod KeptParity
+pub mod Witnesses
 pub mod Packing

@@ -835,7 +835,7 @@ done-bytes s e f i j =
     let b = bytes-after-b s e (bytes-after-a s e f j) in
     record { state = bytes-after-d s e b; value = value-fits s e i j; sent = settled-bytes s e b .sent }
 
-access-fits : (s : State) (e : Event) → EventFits e → InRange s → StepFits (access s e)
+pub access-fits : (s : State) (e : Event) → EventFits e → InRange s → StepFits (access s e)
 unfolding access
 access-fits s e f i =
     cond-case StepFits (isDone (accessCode s e)) _ _ (λ d. done-fits s e f d i)
