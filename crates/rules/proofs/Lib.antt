@@ -9,6 +9,8 @@ pub mod Rest
 pub mod Refusals
 pub mod Ranges
 pub mod Still
+pub mod OneTick
+pub mod Reports
 pub mod Beliefs
 pub mod Effects
 pub mod Counting

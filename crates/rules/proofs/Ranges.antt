@@ -789,7 +789,7 @@ pub record StepBytes (r : Stepped) : Type 0 where
   pub value : r .value < 65536
   pub sent : Bytes (r .sent)
 
-ended-fits : (s : State) (code : Code) (value : ℕ) → InRange s → StepFits (ended s code value)
+pub ended-fits : (s : State) (code : Code) (value : ℕ) → InRange s → StepFits (ended s code value)
 unfolding ended
 ended-fits s code value i = record { state = i; moves = omega arith; acks = omega arith; sent = omega arith }
 

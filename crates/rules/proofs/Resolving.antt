@@ -1,6 +1,6 @@
 -- The sequencer without a tick: what it resolves stays resolved, and where it drives BSY or SEL no quiet ticks stand.
-use mathlib.Core.Path.{_≡_, refl, sym, _∙_, ap}
-use mathlib.Core.Bool.{Bool, true, false, not, _&&_, _||_, cond, and-false}
+use mathlib.Core.Path.{_≡_, refl, sym, _∙_, ap, subst}
+use mathlib.Core.Bool.{Bool, true, false, not, _&&_, _||_, cond}
 use Prim.Native.Nat.{ℕ, _+_}
 use lib.Dec.{leb}
 use Rattle.rules.specs.State.{State, Transfer}
@@ -164,11 +164,11 @@ unfolding isPhase phaseNumber
 silenced-idle true q e = e
 silenced-idle false q e = refl
 
-silenced-phase : (x : Sequenced) → isPhase Idle ((silenced x) .sequencer .phase) ≡ true
+pub silenced-phase : (x : Sequenced) → isPhase Idle ((silenced x) .sequencer .phase) ≡ true
 unfolding silenced selingoCleared
 silenced-phase x = silenced-idle (isPhase Idle (x .sequencer .phase)) (x .sequencer) refl
 
-silenced-selingo : (x : Sequenced) → (silenced x) .sequencer .status .selingo ≡ false
+pub silenced-selingo : (x : Sequenced) → (silenced x) .sequencer .status .selingo ≡ false
 unfolding silenced selingoCleared
 silenced-selingo x = refl
 
@@ -187,7 +187,7 @@ selingo-still q e =
       latches = q .latches;
     }
 
-silenced-still : (y : Sequenced) → isPhase Idle (y .sequencer .phase) ≡ true → y .sequencer .status .selingo ≡ false → silenced y ≡ y
+pub silenced-still : (y : Sequenced) → isPhase Idle (y .sequencer .phase) ≡ true → y .sequencer .status .selingo ≡ false → silenced y ≡ y
 unfolding silenced
 silenced-still y e f = rw e (rw (selingo-still (y .sequencer) f))
 
@@ -248,6 +248,45 @@ sequencer-calm n tick before =
     ∙ (λ i. cond (same-rst n tick before i) (silenced (left-sequenced n tick before i)) (same-resolved n (left-sequenced n tick before i) tick before i))
     ∙ sequenced-again n tick before ∙ sym (left-sequenced n tick before)
 
+-- the sequencer has nothing to do: with RST seen it is idle and SELINGO is 0, else there is nothing to resolve
+chosen-true : {A : Type 0} (b : Bool) (x y z : A) → b ≡ true → cond b x y ≡ z → x ≡ z
+chosen-true true x y z e h = h
+chosen-true false x y z e h = absurd (never e)
+
+chosen-false : {A : Type 0} (b : Bool) (x y z : A) → b ≡ false → cond b x y ≡ z → y ≡ z
+chosen-false true x y z e h = absurd (never (sym e))
+chosen-false false x y z e h = h
+
+pub record Quieted (n : State) : Type 0 where
+  pub phase : isPhase Idle (n .sequencer .phase) ≡ true
+  pub selingo : n .sequencer .status .selingo ≡ false
+
+module _ (n : State) where
+  pub rest-quieted : Sequential n → rstSeen n ≡ true → Quieted n
+  unfolding sequencedOf
+  rest-quieted h e =
+      let x = sequencedOf n in
+      let k = chosen-true (rstSeen n) (silenced x) (resolved n x) x e (sym (tickless n 0) ∙ h) in
+      record {
+        phase = subst (λ (y : Sequenced). isPhase Idle (y .sequencer .phase) ≡ true) k (silenced-phase x);
+        selingo = subst (λ (y : Sequenced). y .sequencer .status .selingo ≡ false) k (silenced-selingo x);
+      }
+
+  pub rest-calm : Sequential n → rstSeen n ≡ false → Calm n (sequencedOf n)
+  rest-calm h e =
+      let x = sequencedOf n in
+      let k = chosen-false (rstSeen n) (silenced x) (resolved n x) x e (sym (tickless n 0) ∙ h) in
+      subst (λ (y : Sequenced). Calm n y) k (resolved-calm n x)
+
+  pub sequential-by : (rstSeen n ≡ true → Quieted n) → (rstSeen n ≡ false → Calm n (sequencedOf n)) → Sequential n
+  unfolding sequencedOf
+  sequential-by f g =
+      let x = sequencedOf n in
+      tickless n 0
+      ∙ cond-case (λ (y : Sequenced). y ≡ x) (rstSeen n) (silenced x) (resolved n x)
+      (λ e. silenced-still x (f e .phase) (f e .selingo))
+      (λ e. calm-still n x (g e))
+
 -- PHASECHG, settling and D do not touch what the sequencer looks at
 pub sequential-status : (x : Status) (n : State) → Sequential n → Sequential (withStatus x n)
 unfolding sequenced sequencedOf rstSeen resolved uncalled letGo forestalled selected begun withdrawn answers called connects
@@ -272,7 +311,7 @@ Hushed n = busyAt n ≡ true → n .quiet ≡ 0
 abbrev Silent : Sequenced → Type 0
 Silent x = phaseDrives (x .sequencer .phase) ≡ true → x .quiet ≡ 0
 
-drives-line : (p : Phase) (a b : Bool) → phaseDrives p ≡ true → ((a || phaseBsy p) || (b || phaseSel p)) ≡ true
+pub drives-line : (p : Phase) (a b : Bool) → phaseDrives p ≡ true → ((a || phaseBsy p) || (b || phaseSel p)) ≡ true
 unfolding phaseDrives phaseBsy phaseSel
 drives-line Idle a b e = absurd (never e)
 drives-line Waiting a b e = absurd (never e)
@@ -367,7 +406,7 @@ unfolding sequencedOf
 kept-after n tick before = sequenced-keeps n (Kept n) (kept-ticking n) tick before (λ e. e)
 
 -- it answers only while others drive SEL
-abbrev Held : State → Sequenced → Type 0
+abbrev pub Held : State → Sequenced → Type 0
 Held s x = (isPhase Answered (x .sequencer .phase) && not (s .lines .sel)) ≡ false
 
 idle-held : (p : Phase) (b : Bool) → isPhase Idle p ≡ true → (isPhase Answered p && b) ≡ false
@@ -381,7 +420,7 @@ idle-held Holding b e = refl
 idle-held Answering b e = refl
 idle-held Answered b e = absurd (never e)
 
-held-after : (n : State) (tick : Bool) (before : ℕ) → Held n (sequenced tick before n)
+pub held-after : (n : State) (tick : Bool) (before : ℕ) → Held n (sequenced tick before n)
 unfolding sequenced
 held-after n tick before =
     let x = sequencedOf n in
