@@ -11,6 +11,7 @@ pub mod Ranges
 pub mod Still
 pub mod OneTick
 pub mod Reports
+pub mod TickByTick
 pub mod Beliefs
 pub mod Effects
 pub mod Counting

@@ -173,7 +173,7 @@ sequencer-still s before h =
     sequenced-into s false before ∙ ap (λ (x : Sequenced). sequencedInto x s) (tickless s before ∙ sym (tickless s 0) ∙ h) ∙ same-into s
 
 module _ (s : State) (r : AtRest s) (h : s .quiet ≤ 8) where
-  quiet-still : quietAfter 0 s ≡ s .quiet
+  pub quiet-still : quietAfter 0 s ≡ s .quiet
   unfolding quietAfter
   quiet-still = go (bsySeen s || selSeen s) refl
     where

@@ -10,7 +10,8 @@ use Rattle.rules.specs.Records.{linesOf}
 use Rattle.rules.specs.Codes.{numberOf, accessCode}
 use Rattle.rules.specs.StepA.{afterA}
 use Rattle.rules.specs.StepB.{rstRises, inOrder}
-use Rattle.rules.specs.Step.{step, after}
+use Rattle.rules.specs.Step.{ended, singleTicks, step, after}
+use Rattle.rules.specs.Ticks.{distance}
 use Rattle.rules.specs.Examples.{bytesOf}
 use Rattle.rules.specs.declared.codes.Code.the-variants.{Done}
 use Rattle.rules.specs.declared.records.Event.the-variants.{WordWrite, Drive}
@@ -53,3 +54,16 @@ reset-before-ticks = refl
 -- CLRCH without CLRSTCNT
 clrch-alone : bit 0x02 1 ≡ true
 clrch-alone = refl
+
+-- a chip at rest, in range and 8 ticks from bus free
+reset-distance : distance powerReset ≡ 8
+unfolding computes
+reset-distance = refl
+
+-- a round that leaves all as it was: one tick on a bus that has been free for long
+abbrev longFree : State
+longFree = withQuiet 8 powerReset
+
+round-idle : singleTicks 1 longFree ≡ ended longFree Done 0
+unfolding computes
+round-idle = refl
