@@ -7,7 +7,7 @@ use mathlib.Core.List.{List, [], append-assoc}
 use native.Mathlib.Omega.{arith}
 use native.Mathlib.Nat.{zero-add, suc-add, add-assoc, div-add-mod'}
 use lib.Dec.{eqb, leb, eqb·suc-zero}
-use borrow.Author.Tests.{eqb-true}
+use borrow.Author.Tests.{leb-false, eqb-true}
 use Rattle.rules.specs.State.{State, powerReset}
 use Rattle.rules.specs.Changed.{withQuiet, withSequencer}
 use Rattle.rules.specs.Seen.{bsySeen, selSeen}
@@ -24,6 +24,7 @@ use Rattle.rules.specs.declared.chip.Phase.{Phase}
 use Rattle.rules.specs.declared.chip.Phase.the-variants.{Idle, Waiting, Arbitrating, Clearing, Selecting, Holding, Answering, Answered}
 use Rattle.rules.specs.declared.records.Event.the-variants.{Ticks}
 use Rattle.rules.proofs.Logic.{never}
+use Rattle.rules.proofs.Sequencing.{timeout-least}
 use Rattle.rules.proofs.Still.{AtRest, quiet-still, zero-ticks-at-rest, always-at-rest}
 use Rattle.rules.proofs.Ranges.{always-in-range}
 use Rattle.rules.proofs.OneTick.{no-free, advanced-rests, advanced-fits, steady-tick}
@@ -211,6 +212,48 @@ ticks-split (suc a) b s =
     let t = first .state in
     ap (λ (n : ℕ). singleTicks n s) (suc-add a b) ∙ ap (joined first) (ticks-split a b t)
     ∙ joined-assoc first (singleTicks a t) (singleTicks b ((singleTicks a t) .state))
+
+-- so that ticks below the distance may be left out, and the rest taken from where they lead
+pub steady-more : (k m : ℕ) (s : State) → AtRest s → InRange s → k < distance s → singleTicks (k + m) s ≡ singleTicks m (advanced k s)
+unfolding ended
+steady-more k m s r i h =
+    let e = steady k s r i h in
+    ticks-split k m s ∙ (λ j. joined (e j) (singleTicks m (e j .state))) ∙ joined-none (advanced k s) (advanced k s) m
+
+-- the distance is at least one tick, and no more than an event has, and one
+bounded-in : (b : Bool) (x y : ℕ) → (1 ≤ x) × (x ≤ unreached) → (b ≡ false → (1 ≤ y) × (y ≤ unreached)) → (1 ≤ cond b x y) × (cond b x y ≤ unreached)
+bounded-in true x y f g = f
+bounded-in false x y f g = g refl
+
+free-bounded : (s : State) → (1 ≤ busFreeDistance s) × (busFreeDistance s ≤ unreached)
+unfolding busFreeDistance
+free-bounded s =
+    bounded-in (busTaken s || leb 8 (s .quiet)) unreached (8 - s .quiet) (omega arith) (λ e. below (busTaken s) (leb 8 (s .quiet)) refl e)
+  where
+    below : (b c : Bool) → leb 8 (s .quiet) ≡ c → (b || c) ≡ false → (1 ≤ 8 - s .quiet) × (8 - s .quiet ≤ unreached)
+    below true c f e = absurd (never (sym e))
+    below false true f e = absurd (never (sym e))
+    below false false f e =
+        let q = leb-false 8 (s .quiet) f in
+        (omega arith, omega arith)
+
+bounded-phase : (p : Phase) (s : State) → (1 ≤ distanceIn p s) × (distanceIn p s ≤ unreached)
+unfolding distanceIn
+bounded-phase Idle s = free-bounded s
+bounded-phase Waiting s =
+    bounded-in (busWaits s) (delayLeft busFreeDelay (s .sequencer .ticks)) (busFreeDistance s) (omega arith) (λ e. free-bounded s)
+bounded-phase Arbitrating s = (omega arith, omega arith)
+bounded-phase Clearing s = (omega arith, omega arith)
+bounded-phase Selecting s =
+    bounded-in (s .registers .sxfrctl1 .enstimer) (delayLeft (timeout (s .registers)) (s .sequencer .ticks)) unreached
+    (omega arith, omega (arith, timeout-least (s .registers))) (λ e. (omega arith, omega arith))
+bounded-phase Holding s = free-bounded s
+bounded-phase Answering s = (omega arith, omega arith)
+bounded-phase Answered s = free-bounded s
+
+pub distance-bounded : (s : State) → (1 ≤ distance s) × (distance s ≤ unreached)
+unfolding distance
+distance-bounded s = bounded-phase (s .sequencer .phase) s
 
 -- A ROUND THAT LEAVES ALL AS IT WAS, AND REPORTS NOTHING, MAY BE LEFT OUT
 module _ (p : ℕ) (s : State) (e : singleTicks p s ≡ ended s Done 0) where
