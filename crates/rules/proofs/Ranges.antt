@@ -790,7 +790,7 @@ pub record StepBytes (r : Stepped) : Type 0 where
   pub value : r .value < 65536
   pub sent : Bytes (r .sent)
 
-ended-fits : (s : State) (code : Code) (value : ℕ) → InRange s → StepFits (ended s code value)
+pub ended-fits : (s : State) (code : Code) (value : ℕ) → InRange s → StepFits (ended s code value)
 unfolding ended
 ended-fits s code value i = record { state = i; moves = omega arith; acks = omega arith; sent = omega arith }
 
@@ -836,7 +836,7 @@ done-bytes s e f i j =
     let b = bytes-after-b s e (bytes-after-a s e f j) in
     record { state = bytes-after-d s e b; value = value-fits s e i j; sent = settled-bytes s e b .sent }
 
-access-fits : (s : State) (e : Event) → EventFits e → InRange s → StepFits (access s e)
+pub access-fits : (s : State) (e : Event) → EventFits e → InRange s → StepFits (access s e)
 unfolding access
 access-fits s e f i =
     cond-case StepFits (isDone (accessCode s e)) _ _ (λ d. done-fits s e f d i)

@@ -10,30 +10,31 @@ use borrow.Author.Tests.{leb-false}
 use Rattle.rules.specs.Numbers.{one}
 use Rattle.rules.specs.Counter.{counterSize}
 use Rattle.rules.specs.State.{State}
-use Rattle.rules.specs.Seen.{isPhase, rstSeen, bsySeen, selSeen}
+use Rattle.rules.specs.Seen.{isPhase, phaseDrives, rstSeen, bsySeen, selSeen}
 use Rattle.rules.specs.Sequencer.{busFreeDelay, arbitrationDelay, clearingDelay, settleDelay, timeout, askedBy, called, higherId, sequencedOf, waited, entered, selingoCleared, selingoRaised, seltoRaised, seldoRaised, seldiRaised, silenced, arbitrates, waitingFor, arbitratingFor, selects, clearingFor, timesOut, selectingFor, reselected, answeringFor, tickIn, uncalled, letGo, forestalled, connects, selected, begun, withdrawn, answers, resolved, sequenced}
+use Rattle.rules.specs.declared.chip.Sequenced.{Sequenced}
 use Rattle.rules.specs.declared.registers.Registers.{Registers}
 use Rattle.rules.specs.declared.chip.Phase.{Phase}
-use Rattle.rules.specs.declared.chip.Sequenced.{Sequenced}
 use Rattle.rules.specs.declared.chip.Phase.the-variants.{Idle, Waiting, Arbitrating, Clearing, Selecting, Holding, Answering, Answered}
 use Rattle.rules.proofs.Logic.{cond-case}
 
--- what is handed on by each change of phase in "In every event, ticks or not", and by SELDO
-module _ (s : State) (P : Sequenced → Type 0) (moved : (p : Phase) (x : Sequenced) → P x → P (entered p x)) (taken : (x : Sequenced) → P x → P (connects s x)) where
-  step : (t : Bool) (q : Phase) (y : Sequenced) → P y → P (cond t (entered q y) y)
-  step t q y h = cond-case P t (entered q y) y (λ e. moved q y h) (λ e. h)
+-- what is handed on by each change of phase in "In every event, ticks or not", and by SELDO: none of them enters a phase that
+-- gives data
+module _ (s : State) (P : Sequenced → Type 0) (moved : (p : Phase) (x : Sequenced) → phaseDrives p ≡ false → P x → P (entered p x)) (taken : (x : Sequenced) → P x → P (connects s x)) where
+  step : (t : Bool) (q : Phase) (y : Sequenced) → phaseDrives q ≡ false → P y → P (cond t (entered q y) y)
+  step t q y d h = cond-case P t (entered q y) y (λ e. moved q y d h) (λ e. h)
 
   keeps-uncalled : (x : Sequenced) → P x → P (uncalled s x)
-  unfolding uncalled
-  keeps-uncalled x h = step (isPhase Answering (x .sequencer .phase) && not (called s)) Idle x h
+  unfolding uncalled phaseDrives
+  keeps-uncalled x h = step (isPhase Answering (x .sequencer .phase) && not (called s)) Idle x refl h
 
   keeps-let-go : (x : Sequenced) → P x → P (letGo s x)
-  unfolding letGo
-  keeps-let-go x h = step (isPhase Answered (x .sequencer .phase) && not (s .lines .sel)) Idle x h
+  unfolding letGo phaseDrives
+  keeps-let-go x h = step (isPhase Answered (x .sequencer .phase) && not (s .lines .sel)) Idle x refl h
 
   keeps-forestalled : (x : Sequenced) → P x → P (forestalled s x)
-  unfolding forestalled
-  keeps-forestalled x h = step (isPhase Arbitrating (x .sequencer .phase) && s .lines .sel) Waiting x h
+  unfolding forestalled phaseDrives
+  keeps-forestalled x h = step (isPhase Arbitrating (x .sequencer .phase) && s .lines .sel) Waiting x refl h
 
   keeps-selected : (x : Sequenced) → P x → P (selected s x)
   unfolding selected
@@ -41,19 +42,19 @@ module _ (s : State) (P : Sequenced → Type 0) (moved : (p : Phase) (x : Sequen
       cond-case P ((isPhase Selecting (x .sequencer .phase) || isPhase Holding (x .sequencer .phase)) && s .lines .bsy) (connects s x) x (λ e. taken x h) (λ e. h)
 
   keeps-begun : (x : Sequenced) → P x → P (begun s x)
-  unfolding begun
+  unfolding begun phaseDrives
   keeps-begun x h =
-      step (isPhase Idle (x .sequencer .phase) && askedBy (x .enselo) (s .registers .scsiseq .temodeo)) Waiting x h
+      step (isPhase Idle (x .sequencer .phase) && askedBy (x .enselo) (s .registers .scsiseq .temodeo)) Waiting x refl h
 
   keeps-withdrawn : (x : Sequenced) → P x → P (withdrawn s x)
-  unfolding withdrawn
+  unfolding withdrawn phaseDrives
   keeps-withdrawn x h =
-      step (isPhase Waiting (x .sequencer .phase) && not (askedBy (x .enselo) (s .registers .scsiseq .temodeo)) && not (leb 8 (x .quiet))) Idle x h
+      step (isPhase Waiting (x .sequencer .phase) && not (askedBy (x .enselo) (s .registers .scsiseq .temodeo)) && not (leb 8 (x .quiet))) Idle x refl h
 
   keeps-answers : (x : Sequenced) → P x → P (answers s x)
-  unfolding answers
+  unfolding answers phaseDrives
   keeps-answers x h =
-      step ((isPhase Idle (x .sequencer .phase) || isPhase Waiting (x .sequencer .phase)) && called s) Answering x h
+      step ((isPhase Idle (x .sequencer .phase) || isPhase Waiting (x .sequencer .phase)) && called s) Answering x refl h
 
   pub resolved-keeps : (x : Sequenced) → P x → P (resolved s x)
   unfolding resolved
@@ -115,5 +116,5 @@ module _ (s : State) (P : Sequenced → Type 0) (k : Ticking s P) where
       let x = sequencedOf s in
       cond-case P (rstSeen s) _ _ (λ e. k .silent x h)
       (λ e.
-      resolved-keeps s P (k .moved) (k .taken) (cond tick (tickIn (x .sequencer .phase) before s x) x)
+      resolved-keeps s P (λ p y d. k .moved p y) (k .taken) (cond tick (tickIn (x .sequencer .phase) before s x) x)
       (cond-case P tick (tickIn (x .sequencer .phase) before s x) x (λ t. tick-keeps (x .sequencer .phase) before x h) (λ t. h)))

@@ -19,6 +19,7 @@ pub mod StepC
 pub mod StepD
 pub mod Answers
 pub mod Step
+pub mod Ticks
 pub mod Chips
 pub mod Ranges
 pub mod Examples
