@@ -1,12 +1,12 @@
 -- B is the frequent parts one after the other, while RST does not rise, no parity error comes and the bus does not become free.
 use Prim.Native.Nat.{ℕ}
 use mathlib.Core.Path.{_≡_, refl, ap, sym, _∙_}
-use mathlib.Core.Bool.{Bool, true, false, not, _&&_, _||_, cond, and-true, and-false}
+use mathlib.Core.Bool.{Bool, true, false, not, _&&_, _||_, cond, and-true, and-false, Bool·beq}
 use mathlib.Core.List.{List, [], _∷_, _++_}
 use lib.Dec.{eqb, leb, ltb}
 use lib.ListN.{getD}
 use Rattle.rules.specs.State.{State}
-use Rattle.rules.specs.Seen.{rstSeen, selSeen, bsySeen, ioSeen, reqSeen, connected, matched, mismatched, synchronous, dataSeen}
+use Rattle.rules.specs.Seen.{rstSeen, selSeen, bsySeen, ioSeen, reqSeen, connected, matched, mismatched, path, synchronous, dataSeen}
 use Rattle.rules.specs.StepB.{parityBad, beyondLimit, lateByte}
 use Rattle.edges.specs.declared.edges.Edges.{Edges}
 use Rattle.rules.specs.Changed.{withStatus, withQuiet}
@@ -16,17 +16,30 @@ use Rattle.edges.specs.From.{rstRisesFrom, reqRisesFrom, synchronousReqF
 use Rattle.edges.specs.Components.{registersB, transferB, statusB, storedB, offsetB}
 use Rattle.edges.specs.Tests.{pastLimit}
 use Rattle.edges.specs.Frequent.{raisedB, phaseB, inboundB, callB, risenB, releasedB, initB, reqB}
-use Rattle.edges.proofs.Laws.{inbound-data}
+use Rattle.rules.proofs.Driving.{inbound-data}
+use Rattle.rules.proofs.Logic.{left-true, right-true}
 use Rattle.edges.proofs.Placed.{offset-of, held-of}
 
--- the byte that is stored where IO is seen
-inbound-byte : (s : State) (b : Bool) (x : List ℕ) → cond (b && ioSeen s) (x ++ (dataSeen s ∷ [])) x ≡ cond (b && ioSeen s) (x ++ (s .lines .byte ∷ [])) x
-inbound-byte s false x = refl
-inbound-byte s true x = by-io (ioSeen s) refl
+-- the byte that is stored where the chip is connected and IO is seen
+inbound-byte : (s : State) (b : Bool) (x : List ℕ) → (b ≡ true → connected s ≡ true) → cond (b && ioSeen s) (x ++ (dataSeen s ∷ [])) x ≡ cond (b && ioSeen s) (x ++ (s .lines .byte ∷ [])) x
+inbound-byte s false x h = refl
+inbound-byte s true x h = by-io (ioSeen s) refl
   where
     by-io : (io : Bool) → ioSeen s ≡ io → cond io (x ++ (dataSeen s ∷ [])) x ≡ cond io (x ++ (s .lines .byte ∷ [])) x
-    by-io true e = ap (λ (d : ℕ). x ++ (d ∷ [])) (inbound-data s e)
+    by-io true e = ap (λ (d : ℕ). x ++ (d ∷ [])) (inbound-data s (h refl) e)
     by-io false e = refl
+
+-- a synchronous REQ comes on a connected bus
+joined : (s : State) → matched s ≡ true → connected s ≡ true
+unfolding matched
+joined s m =
+    left-true (connected s) _ (left-true (connected s && Bool·beq (s .lines .cd) (s .registers .scsisig .cdexp)) _ (left-true _ (Bool·beq (s .lines .msg) (s .registers .scsisig .msgexp)) m))
+
+called-joined : (req : Bool) (s : State) → (synchronousReqFrom req s && not (beyondLimit s)) ≡ true → connected s ≡ true
+unfolding synchronousReqFrom
+called-joined req s h =
+    joined s
+    (right-true (reqRisesFrom req s) (matched s) (left-true (reqRisesFrom req s && matched s) (path (s .registers)) (left-true (reqRisesFrom req s && matched s && path (s .registers)) (synchronous s) (left-true (synchronousReqFrom req s) _ h))))
 
 released-alone : (b : Bool) → (b || false || false) ≡ b
 released-alone true = refl
@@ -45,7 +58,7 @@ applied-plain g was s a b d = rw (a, b, d, released-alone)
 plain-parts : (rst req was : Bool) (s : State) (ticks : ℕ) → plainB (edgesFrom rst req s ticks) was (dataSeen s) s ≡ reqB req (phaseB was (withQuiet (quietFrom rst s ticks) s))
 unfolding edgesFrom reqB reqRisesFrom synchronousReqFrom beyondLimit lateByte mismatched matched connected synchronous bsySeen selSeen rstSeen
 plain-parts rst req was s ticks =
-    rw (inbound-byte s (synchronousReqFrom req s && not (beyondLimit s)) (s .transfer .scsi))
+    rw (inbound-byte s (synchronousReqFrom req s && not (beyondLimit s)) (s .transfer .scsi) (called-joined req s))
 
 pub frequent : (rst req was : Bool) (s : State) (ticks : ℕ) → rstRisesFrom rst s ≡ false → (reqRisesFrom req s && parityBad s) ≡ false → (leb 8 (quietFrom rst s ticks) && not (leb 8 (s .quiet))) ≡ false → appliedFrom (edgesFrom rst req s ticks) was s ≡ reqB req (phaseB was (withQuiet (quietFrom rst s ticks) s))
 unfolding edgesFrom

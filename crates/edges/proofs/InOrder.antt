@@ -1,4 +1,4 @@
--- THE FIVE STEPS IN THEIR ORDER ARE THE EDGES SIDE BY SIDE, for every state: the definition of B and the form that the code computes.
+-- THE FIVE STEPS IN THEIR ORDER ARE THE EDGES SIDE BY SIDE, for every state: the definition and the form that the code computes.
 -- A bus reset leaves RST seen, so that no REQ rises after it; a REQ that rises did not fall; so "REQ rises" is handed the state
 -- after A wherever it does anything, and the automatic ACK released before it changes nothing that it looks at.
 use Prim.Native.Nat.{ℕ}
@@ -7,17 +7,19 @@ use mathlib.Core.Bool.{Bool, true, false, not, _&&_, _||_, cond, and-false}
 use mathlib.Core.List.{List, [], _∷_, _++_, append-nil}
 use Rattle.rules.specs.State.{State}
 use Rattle.rules.specs.Seen.{rstSeen, reqSeen, ioSeen, bsySeen, selSeen, connected, matched, mismatched, dataSeen}
-use Rattle.rules.specs.StepB.{reqFalls, ackReleased, afterReqFalls, rstRises, busReset, afterRstRises, reqRises, parityBad, attention, synchronousReq, beyondLimit, beyond, reqWithin, lateByte, storedByte, reqRisen, afterReqRises, quietAfter, busFree, busFreed, afterQuietTicks, phaseChanges, phaseChanged, afterPhaseChanges, inOrder}
+use Rattle.rules.specs.StepB.{reqFalls, ackReleased, afterReqFalls, rstRises, busReset, afterRstRises, reqRises, parityBad, attention, synchronousReq, beyondLimit, beyond, reqWithin, lateByte, storedByte, reqRisen, afterReqRises, quietAfter, busFree, busFreed, afterQuietTicks, phaseChanges, phaseChanged, afterPhaseChanges, firstFour}
 use Rattle.rules.specs.Changed.{withStatus, withQuiet}
+use Rattle.rules.specs.Sequencer.{selectionFreed}
 use Rattle.image.specs.Image.{stateAt}
 use Rattle.rules.specs.declared.chip.Status.{Status}
 use Rattle.rules.proofs.InOrder.{falls-keeps}
 use Rattle.rules.proofs.Logic.{never, left-true}
 use Rattle.edges.specs.Components.{registersB, transferB, statusB}
 use Rattle.edges.specs.From.{rstRisesFrom, reqRisesFrom, synchronousReqFrom, quietFrom, edgesFrom, appliedFrom}
+use Rattle.edges.specs.Frequent.{phaseB}
 use Rattle.edges.specs.ParityKept.{keptOf, keptFrom}
 use Rattle.edges.proofs.ParityKept.{kept-none, kept-data}
-use Rattle.edges.specs.Since.{lastOf, beyondSince, rstOf, reqOf, mismatchedOf}
+use Rattle.edges.specs.Since.{lastOf, fiveInOrder, beyondSince, rstOf, reqOf, mismatchedOf}
 use Rattle.edges.specs.declared.edges.Edges.{Edges}
 use Rattle.edges.specs.declared.last.Seen.{Seen}
 
@@ -105,10 +107,6 @@ phase-step last n = go (mismatched n && not (mismatched last))
     go true = refl
     go false = refl
 
-two-steps : (last : State) (ticks : ℕ) (n : State) → afterPhaseChanges last (afterQuietTicks ticks n) ≡ endsBy (mismatched last) (busFree ticks n) (quietAfter ticks n) n
-unfolding afterQuietTicks
-two-steps last ticks n = phase-step last (afterQuietTicks ticks n)
-
 -- the edges with a bus reset, with a REQ that rises, and with neither
 abbrev resetEdges : Bool → Bool → ℕ → Edges
 resetEdges falls free quiet =
@@ -157,14 +155,14 @@ otherEdges falls free quiet =
 
 module _ (was : Bool) (now : State) where
   applied-reset : (falls free : Bool) (quiet : ℕ) → appliedFrom (resetEdges falls free quiet) was now ≡ endsBy was free quiet (busReset now)
-  unfolding appliedFrom registersB transferB statusB busReset busFreed mismatched matched connected bsySeen selSeen rstSeen
+  unfolding appliedFrom registersB transferB statusB busReset busFreed selectionFreed mismatched matched connected bsySeen selSeen rstSeen
   applied-reset true true quiet = refl
   applied-reset true false quiet = refl
   applied-reset false true quiet = refl
   applied-reset false false quiet = refl
 
   applied-other : (falls free : Bool) (quiet : ℕ) → appliedFrom (otherEdges falls free quiet) was now ≡ endsBy was free quiet (cond falls (ackReleased now) now)
-  unfolding appliedFrom registersB transferB statusB ackReleased busFreed mismatched matched connected bsySeen selSeen rstSeen
+  unfolding appliedFrom registersB transferB statusB ackReleased busFreed selectionFreed mismatched matched connected bsySeen selSeen rstSeen
   applied-other true true quiet = refl
   applied-other true false quiet = refl
   applied-other false true quiet = refl
@@ -179,7 +177,7 @@ module _ (was : Bool) (now : State) where
   stored-as = stored-last (reqWithin now && ioSeen now) (now .transfer .scsi) _
 
   applied-risen : (free : Bool) (quiet : ℕ) → appliedFrom (risenEdges now free quiet) was (keptOf now) ≡ endsBy was free quiet (reqRisen now)
-  unfolding appliedFrom registersB transferB statusB attention reqRisen busFreed mismatched matched connected bsySeen selSeen rstSeen
+  unfolding appliedFrom registersB transferB statusB attention reqRisen busFreed selectionFreed mismatched matched connected bsySeen selSeen rstSeen
   applied-risen true quiet = rw (kept-data now, stored-as)
   applied-risen false quiet = rw (kept-data now, stored-as)
 
@@ -214,19 +212,19 @@ module _ (last : State) (ticks : ℕ) (now : State) where
   unfolding ackReleased busFree quietAfter bsySeen selSeen
   free-fallen = falls-keeps (λ n. busFree ticks n ≡ busFree ticks now) last now refl (λ h. h)
 
-  abbrev Ordered : Type 0
-  Ordered = inOrder last ticks now ≡ appliedFrom (edgesFrom rst req now ticks) was (keptFrom req now)
+  -- the phase judged against any mismatch, whether it was seen or not
+  abbrev Ordered : Bool → Type 0
+  Ordered w = phasedIn w (firstFour last ticks now) ≡ appliedFrom (edgesFrom rst req now ticks) w (keptFrom req now)
 
   -- what "REQ rises" is handed, and the state that it leaves
-  handed : {n m : State} → afterRstRises last (afterReqFalls last now) ≡ n → afterReqRises last n ≡ m → inOrder last ticks now ≡ endsBy was (busFree ticks m) (quietAfter ticks m) m
-  unfolding inOrder
-  handed {n} {m} a b =
-      ap (λ (x : State). afterPhaseChanges last (afterQuietTicks ticks (afterReqRises last x))) a
-      ∙ ap (λ (x : State). afterPhaseChanges last (afterQuietTicks ticks x)) b
-      ∙ two-steps last ticks m
+  handed : (w : Bool) {n m : State} → afterRstRises last (afterReqFalls last now) ≡ n → afterReqRises last n ≡ m → phasedIn w (firstFour last ticks now) ≡ endsBy w (busFree ticks m) (quietAfter ticks m) m
+  unfolding firstFour afterQuietTicks
+  handed w {n} {m} a b =
+      ap (λ (x : State). phasedIn w (afterQuietTicks ticks (afterReqRises last x))) a
+      ∙ ap (λ (x : State). phasedIn w (afterQuietTicks ticks x)) b
 
-  side : {g : Edges} {n : State} → edgesFrom rst req now ticks ≡ g → keptFrom req now ≡ n → appliedFrom g was n ≡ appliedFrom (edgesFrom rst req now ticks) was (keptFrom req now)
-  side e k = λ i. appliedFrom (sym e i) was (sym k i)
+  side : (w : Bool) {g : Edges} {n : State} → edgesFrom rst req now ticks ≡ g → keptFrom req now ≡ n → appliedFrom g w n ≡ appliedFrom (edgesFrom rst req now ticks) w (keptFrom req now)
+  side w e k = λ i. appliedFrom (sym e i) w (sym k i)
 
   -- a REQ that rises, by REQ as it was
   from-risen : {b : Bool} → reqRises last now ≡ b → reqRisesFrom req now ≡ b
@@ -241,29 +239,40 @@ module _ (last : State) (ticks : ℕ) (now : State) where
   unfolding keptFrom
   kept-risen u = rw (from-risen u)
 
-  ordered-reset : rstRises last now ≡ true → Ordered
-  ordered-reset r =
-      handed (reset-two last now r) (stays last (busReset now) (reset-no-req last now r))
-      ∙ sym (applied-reset was now (reqFalls last now) _ _) ∙ side (edges-reset r) (kept-none req now (unrisen-reset r))
+  ordered-reset : (w : Bool) → rstRises last now ≡ true → Ordered w
+  ordered-reset w r =
+      handed w (reset-two last now r) (stays last (busReset now) (reset-no-req last now r))
+      ∙ sym (applied-reset w now (reqFalls last now) _ _) ∙ side w (edges-reset r) (kept-none req now (unrisen-reset r))
 
-  ordered-risen : rstRises last now ≡ false → reqRises last now ≡ true → Ordered
-  ordered-risen r u =
-      handed (unreset-two last now r ∙ unfallen last now u) (rises last now u) ∙ sym (applied-risen was now _ _) ∙ side (edges-risen r u) (kept-risen u)
+  ordered-risen : (w : Bool) → rstRises last now ≡ false → reqRises last now ≡ true → Ordered w
+  ordered-risen w r u =
+      handed w (unreset-two last now r ∙ unfallen last now u) (rises last now u) ∙ sym (applied-risen w now _ _) ∙ side w (edges-risen r u) (kept-risen u)
 
-  ordered-other : rstRises last now ≡ false → reqRises last now ≡ false → Ordered
+  ordered-other : (w : Bool) → rstRises last now ≡ false → reqRises last now ≡ false → Ordered w
   unfolding afterReqFalls
-  ordered-other r u =
-      handed (unreset-two last now r) (stays last (afterReqFalls last now) (unrisen last now u))
-      ∙ rw (quiet-fallen, free-fallen) (sym (applied-other was now (reqFalls last now) _ _)) ∙ side (edges-other r u) (kept-none req now (from-risen u))
+  ordered-other w r u =
+      handed w (unreset-two last now r) (stays last (afterReqFalls last now) (unrisen last now u))
+      ∙ rw (quiet-fallen, free-fallen) (sym (applied-other w now (reqFalls last now) _ _)) ∙ side w (edges-other r u) (kept-none req now (from-risen u))
+
+  ordered : (w : Bool) → Ordered w
+  ordered w = by (rstRises last now) (reqRises last now) refl refl
+    where
+      by : (r u : Bool) → rstRises last now ≡ r → reqRises last now ≡ u → Ordered w
+      by true u p q = ordered-reset w p
+      by false true p q = ordered-risen w p q
+      by false false p q = ordered-other w p q
 
   -- IN ORDER AND SIDE BY SIDE ARE ONE
-  pub in-order : inOrder last ticks now ≡ appliedFrom (edgesFrom rst req now ticks) was (keptFrom req now)
-  in-order = by (rstRises last now) (reqRises last now) refl refl
-    where
-      by : (r u : Bool) → rstRises last now ≡ r → reqRises last now ≡ u → Ordered
-      by true u p q = ordered-reset p
-      by false true p q = ordered-risen p q
-      by false false p q = ordered-other p q
+  pub in-order : fiveInOrder last ticks now ≡ appliedFrom (edgesFrom rst req now ticks) was (keptFrom req now)
+  unfolding fiveInOrder
+  in-order = phase-step last (firstFour last ticks now) ∙ ordered was
+
+  -- and so are the four, where a mismatch is taken to have been seen
+  unphased : (n : State) → n ≡ phasedIn true n
+  unphased n = rw (and-false (mismatched n))
+
+  pub four-in-order : firstFour last ticks now ≡ appliedFrom (edgesFrom rst req now ticks) true (keptFrom req now)
+  four-in-order = unphased (firstFour last ticks now) ∙ ordered true
 
   -- and so is code 6
   abbrev Beyond : Type 0
@@ -279,7 +288,7 @@ module _ (last : State) (ticks : ℕ) (now : State) where
 
 -- B since the bytes that were seen
 module _ (x : Seen) (ticks : ℕ) (now : State) where
-  pub since : appliedFrom (edgesFrom (rstOf x) (reqOf x) now ticks) (mismatchedOf x) (keptFrom (reqOf x) now) ≡ inOrder (lastOf x) ticks now
+  pub since : appliedFrom (edgesFrom (rstOf x) (reqOf x) now ticks) (mismatchedOf x) (keptFrom (reqOf x) now) ≡ fiveInOrder (lastOf x) ticks now
   unfolding rstOf reqOf mismatchedOf stateAt
   since = sym (in-order (lastOf x) ticks now)
 
@@ -287,10 +296,23 @@ module _ (x : Seen) (ticks : ℕ) (now : State) where
   unfolding beyondSince rstOf reqOf stateAt
   beyond-since = sym (beyond-in-order (lastOf x) ticks now)
 
-  -- is B since any state that has them
+  pub four-since : appliedFrom (edgesFrom (rstOf x) (reqOf x) now ticks) true (keptFrom (reqOf x) now) ≡ firstFour (lastOf x) ticks now
+  unfolding rstOf reqOf stateAt
+  four-since = sym (four-in-order (lastOf x) ticks now)
+
+  -- are those since any state that has them
   module _ (s : State) (p : rstOf x ≡ rstSeen s) (q : reqOf x ≡ reqSeen s) where
-    pub as-seen : mismatchedOf x ≡ mismatched s → inOrder (lastOf x) ticks now ≡ inOrder s ticks now
+    pub four-as-seen : firstFour (lastOf x) ticks now ≡ firstFour s ticks now
+    four-as-seen =
+        sym four-since ∙ (λ i. appliedFrom (edgesFrom (p i) (q i) now ticks) true (keptFrom (q i) now)) ∙ sym (four-in-order s ticks now)
+
+    pub as-seen : mismatchedOf x ≡ mismatched s → fiveInOrder (lastOf x) ticks now ≡ fiveInOrder s ticks now
     as-seen r = sym since ∙ (λ i. appliedFrom (edgesFrom (p i) (q i) now ticks) (r i) (keptFrom (q i) now)) ∙ sym (in-order s ticks now)
 
     pub beyond-as-seen : beyondSince x now ≡ beyond s (afterRstRises s (afterReqFalls s now))
     beyond-as-seen = sym beyond-since ∙ (λ i. (edgesFrom (p i) (q i) now ticks) .beyond) ∙ sym (beyond-in-order s ticks now)
+
+-- the phase, judged against the mismatch that was seen
+pub phase-as-seen : (x : Seen) (n : State) {w : Bool} → w ≡ mismatchedOf x → phaseB w n ≡ afterPhaseChanges (lastOf x) n
+unfolding mismatchedOf
+phase-as-seen x n e = ap (λ (b : Bool). phaseB b n) e ∙ sym (phase-step (lastOf x) n)

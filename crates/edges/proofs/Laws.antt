@@ -1,18 +1,23 @@
 -- Laws of the edges, over their parts.
 use mathlib.Core.Path.{_≡_, refl, ap, sym}
 use mathlib.Core.Bool.{Bool, true, false, not, _&&_, _||_, and-true, and-false, or-false, Bool·beq}
-use lib.Bits.{or-zero-r}
 use Rattle.rules.specs.State.{State}
-use Rattle.rules.specs.Seen.{bsySeen, selSeen, ioSeen, connected, driving, dataDriven, dataSeen, parityDriven, paritySeen, parityEven}
+use Rattle.rules.specs.Seen.{phaseBsy, phaseSel, bsySeen, selSeen, ioSeen, connected, parityEven}
 use Rattle.rules.specs.StepB.{parityBad}
+use Rattle.rules.proofs.Driving.{inbound-data, inbound-parity}
 use Rattle.edges.specs.Components.{registersB, busyB}
 use Rattle.rules.specs.declared.registers.Registers.{Registers}
 use Rattle.edges.specs.Tests.{inboundEven, inboundBad}
 
 -- what is seen of BSY and SEL once a bus reset has zeroed 343h, and without one
-pub busy-reset : (s : State) → (s .lines .bsy || s .lines .sel) ≡ busyB true s
+pub busy-reset : (s : State) → (s .lines .bsy || phaseBsy (s .sequencer .phase) || s .lines .sel || phaseSel (s .sequencer .phase)) ≡ busyB true s
 unfolding bsySeen selSeen registersB
-busy-reset s = rw (or-false (s .lines .bsy), or-false (s .lines .sel))
+busy-reset s =
+    rw (or-false (s .lines .bsy), or-false (s .lines .sel)) (regrouped (s .lines .bsy || phaseBsy (s .sequencer .phase)) (s .lines .sel) (phaseSel (s .sequencer .phase)))
+  where
+    regrouped : (a b d : Bool) → (a || b || d) ≡ (a || (b || d))
+    regrouped true b d = refl
+    regrouped false b d = refl
 
 pub busy-unreset : (s : State) → (bsySeen s || selSeen s) ≡ busyB false s
 unfolding registersB
@@ -42,28 +47,16 @@ module _ (a b d : Bool) where
   pub third-fails : d ≡ false → false ≡ (a && b && d)
   third-fails g = rw (g, and-false (a && b))
 
--- while IO is seen the chip drives no data, and the data seen are those of others
-module _ (s : State) (io : ioSeen s ≡ true) where
-  not-driving : driving s ≡ false
-  unfolding driving
-  not-driving = rw (io, and-false)
-
-  pub inbound-data : dataSeen s ≡ s .lines .byte
-  unfolding dataSeen dataDriven
-  inbound-data = rw (not-driving, or-zero-r)
-
-  inbound-parity : paritySeen s ≡ s .lines .parity
-  unfolding paritySeen parityDriven
-  inbound-parity = rw (not-driving, or-false)
-
-  pub inbound-even : parityEven s ≡ inboundEven s
-  unfolding parityEven
-  inbound-even = rw (inbound-data, inbound-parity)
+-- the parity of an inbound byte is that of others
+pub inbound-even : (s : State) → connected s ≡ true → ioSeen s ≡ true → parityEven s ≡ inboundEven s
+unfolding parityEven
+inbound-even s h io = rw (inbound-data s h io, inbound-parity s h io)
 
 -- a part of a conjunction counts where the others hold
-counts-where : (a i e p q : Bool) → (i ≡ true → p ≡ q) → (a && i && e && p) ≡ (a && i && e && q)
-counts-where a true e p q f = ap (λ (b : Bool). a && true && e && b) (f refl)
-counts-where a false e p q f = rw and-false
+counts-where : (a i e p q : Bool) → (a ≡ true → i ≡ true → p ≡ q) → (a && i && e && p) ≡ (a && i && e && q)
+counts-where true true e p q f = ap (λ (b : Bool). e && b) (f refl refl)
+counts-where true false e p q f = refl
+counts-where false i e p q f = refl
 
 -- where parity is checked, only the data of others count
 pub inbound-checked : (s : State) → parityBad s ≡ inboundBad s

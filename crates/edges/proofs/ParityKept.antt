@@ -7,7 +7,7 @@ use lib.ListN.{getD, set}
 use Rattle.rules.specs.Numbers.{one}
 use Rattle.rules.specs.State.{State}
 use Rattle.rules.specs.Ranges.{InRange, InBytes}
-use Rattle.rules.specs.Seen.{rstSeen, bsySeen, selSeen, ioSeen, reqSeen, connected, matched, synchronous, limit, dataSeen, paritySeen, parityEven, driving, dataDriven, parityDriven}
+use Rattle.rules.specs.Seen.{rstSeen, bsySeen, selSeen, ioSeen, reqSeen, connected, matched, synchronous, limit, dataSeen, paritySeen, parityEven, byteDriving, byteDriven, driving, dataDriven, parityDriven}
 use Rattle.rules.specs.StepB.{parityBad, keptAfter, errorLatched, beyondLimit, lateByte, quietAfter}
 use Rattle.rules.specs.Changed.{withLatches, withKept}
 use Rattle.rules.specs.declared.chip.Latches.{Latches}
@@ -21,7 +21,7 @@ use Rattle.edges.specs.Stored.{latchesStored}
 use Rattle.edges.specs.Tests.{inboundEven, inboundBad}
 use Rattle.edges.specs.declared.edges.Edges.{Edges}
 use Rattle.edges.proofs.Laws.{inbound-even}
-use Rattle.rules.proofs.Logic.{right-true}
+use Rattle.rules.proofs.Logic.{left-true, right-true}
 
 module _ (was : Bool) (s : State) where
   -- no REQ rises; one that is not inbound; one that is
@@ -36,7 +36,7 @@ module _ (was : Bool) (s : State) where
   pub kept-inside : {bad error : Bool} → reqRisesFrom was s ≡ true → (connected s && ioSeen s) ≡ true → bad ≡ inboundEven s → error ≡ (s .registers .sxfrctl1 .enspchk && bad && s .registers .simode1 .enscsiperr) → withLatches (errorOr error (s .latches)) (withKept bad s) ≡ keptFrom was s
   unfolding keptFrom keptAfter errorLatched parityBad
   kept-inside e f g h =
-      rw (h, g ∙ sym (inbound-even s (right-true (connected s) (ioSeen s) f)), e, f)
+      rw (h, g ∙ sym (inbound-even s (left-true (connected s) (ioSeen s) f) (right-true (connected s) (ioSeen s) f)), e, f)
 
   -- and the error that is told
   pub bad-none : reqRisesFrom was s ≡ false → false ≡ (reqRisesFrom was s && inboundBad s)
@@ -71,7 +71,7 @@ module _ (was : Bool) (s : State) where
   kept-range r = go (reqRisesFrom was s)
     where
       go : (b : Bool) → InRange (cond b (keptOf s) s)
-      go true = record { registers = r .registers; transfer = r .transfer; stack = r .stack; quiet = r .quiet; identity = r .identity }
+      go true = record { registers = r .registers; transfer = r .transfer; stack = r .stack; quiet = r .quiet; identity = r .identity; sequencer = r .sequencer }
       go false = r
 
   kept-bytes : InBytes s → InBytes (keptFrom was s)
@@ -79,7 +79,7 @@ module _ (was : Bool) (s : State) where
   kept-bytes r = go (reqRisesFrom was s)
     where
       go : (b : Bool) → InBytes (cond b (keptOf s) s)
-      go true = record { lines = r .lines; registers = r .registers; transfer = r .transfer; stack = r .stack }
+      go true = record { lines = r .lines; registers = r .registers; transfer = r .transfer; stack = r .stack; selid = r .selid }
       go false = r
 
 module _ (m : List ℕ) (i : IsImage m) (was : Bool) {n : List ℕ} (e : n ≡ imageOf (keptFrom was (stateAt m))) where
@@ -92,11 +92,11 @@ module _ (m : List ℕ) (i : IsImage m) (was : Bool) {n : List ℕ} (e : n ≡ i
 
 -- the data seen and the edges look at neither
 pub kept-data : (s : State) → dataSeen (keptOf s) ≡ dataSeen s
-unfolding dataSeen dataDriven driving connected rstSeen bsySeen selSeen
+unfolding dataSeen dataDriven byteDriven byteDriving connected rstSeen bsySeen selSeen
 kept-data s = refl
 
 pub kept-edges : (was rst req : Bool) (s : State) (ticks : ℕ) → edgesFrom rst req (keptFrom was s) ticks ≡ edgesFrom rst req s ticks
-unfolding keptFrom edgesFrom rstRisesFrom reqRisesFrom synchronousReqFrom quietFrom quietAfter registersB parityBad parityEven dataSeen paritySeen driving dataDriven parityDriven beyondLimit lateByte limit matched connected synchronous rstSeen bsySeen selSeen
+unfolding keptFrom edgesFrom rstRisesFrom reqRisesFrom synchronousReqFrom quietFrom quietAfter registersB parityBad parityEven dataSeen paritySeen driving dataDriven byteDriving byteDriven parityDriven beyondLimit lateByte limit matched connected synchronous rstSeen bsySeen selSeen
 kept-edges was rst req s ticks = go (reqRisesFrom was s)
   where
     go : (b : Bool) → edgesFrom rst req (cond b (keptOf s) s) ticks ≡ edgesFrom rst req s ticks

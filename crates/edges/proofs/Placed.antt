@@ -17,15 +17,17 @@ use Rattle.rules.specs.declared.registers.Scsisig.{Scsisig}
 use Rattle.rules.specs.declared.registers.Registers.{Registers}
 use Rattle.rules.specs.declared.chip.Status.{Status}
 use Rattle.edges.specs.declared.edges.Edges.{Edges}
-use Rattle.rules.specs.Changed.{withRegisters, withStatus, withQuiet}
-use Rattle.image.specs.Image.{imageOf, stateAt, IsImage, headOf, scsisigByte, statusOf, statusByte}
+use Rattle.rules.specs.Changed.{withRegisters, withStatus, withQuiet, withSequencer}
+use Rattle.rules.specs.Sequencer.{selectionFreed}
+use Rattle.rules.specs.declared.chip.Sequencer.{Sequencer}
+use Rattle.image.specs.Image.{imageOf, stateAt, IsImage, headOf, scsisigByte, sequencerByte, statusOf, statusByte}
 use Rattle.image.proofs.EightBits.{is-one}
-use Rattle.image.proofs.ReadBack.{scsiseq-back, sxfrctl0-back, scsisig-back, status-back}
-use Rattle.image.specs.Layout.{ackPlace, offsetPlace, quietPlace, scsiBytesPlace, scsiCountPlace, scsiseqPlace, scsisigPlace, statusPlace, sxfrctl0Place}
+use Rattle.image.proofs.ReadBack.{scsiseq-back, sxfrctl0-back, scsisig-back, status-back, phase-of-byte, noted-of-byte, statuses-of-byte}
+use Rattle.image.specs.Layout.{ackPlace, offsetPlace, quietPlace, scsiBytesPlace, scsiCountPlace, scsiseqPlace, scsisigPlace, sequencerPlace, statusPlace, sxfrctl0Place}
 use Rattle.laws.proofs.Lists.{padded-push, padded-length}
 use Rattle.edges.specs.Components.{scsiseqB, sxfrctl0B, scsisigB, registersB, transferB, storedB, offsetB}
 use Rattle.edges.specs.Room.{Room}
-use Rattle.edges.specs.Stored.{registersStored, offsetStored, statusStored}
+use Rattle.edges.specs.Stored.{registersStored, offsetStored, statusStored, freedStored}
 use Rattle.datapath.specs.Fits.{byteStored}
 use Rattle.edges.proofs.Laws.{registers-kept}
 
@@ -46,6 +48,10 @@ module _ (s : State) where
   status-at : statusOf (getD (imageOf s) statusPlace 0) ≡ s .status
   unfolding imageOf
   status-at = status-back (s .status)
+
+  pub phase-at : (stateAt (imageOf s)) .sequencer .phase ≡ s .sequencer .phase
+  unfolding imageOf stateAt
+  phase-at = phase-of-byte (s .sequencer)
 
   pub held-at : getD (imageOf s) scsiCountPlace 0 ≡ length (s .transfer .scsi)
   unfolding imageOf
@@ -169,6 +175,25 @@ status-placed part s e f = f ∙ ap (λ (l : List ℕ). statusStored part l) e �
 pub quiet-placed : (m : List ℕ) (n : ℕ) (s : State) → m ≡ imageOf s → set m quietPlace n ≡ imageOf (withQuiet n s)
 unfolding imageOf
 quiet-placed m n s e = ap (λ (l : List ℕ). set l quietPlace n) e
+
+-- the sequencer's byte, which the ticks are no part of
+freed-byte : (p q : Sequencer) → p .phase ≡ q .phase → p .noted ≡ q .noted → p .status ≡ q .status → sequencerByte (selectionFreed p) ≡ sequencerByte (selectionFreed q)
+unfolding selectionFreed
+freed-byte p q a b d = rw (a, b, d)
+
+freed-read : (s : State) → sequencerByte (selectionFreed ((stateAt (imageOf s)) .sequencer)) ≡ sequencerByte (selectionFreed (s .sequencer))
+unfolding imageOf stateAt
+freed-read s =
+    let q = s .sequencer in
+    freed-byte ((stateAt (imageOf s)) .sequencer) q (phase-of-byte q) (noted-of-byte q) (statuses-of-byte q)
+
+freed-set : (s : State) (v : ℕ) → v ≡ sequencerByte (selectionFreed (s .sequencer)) → set (imageOf s) sequencerPlace v ≡ imageOf (withSequencer (selectionFreed (s .sequencer)) s)
+unfolding imageOf selectionFreed
+freed-set s v a = rw a
+
+pub freed-placed : {m n : List ℕ} (free : Bool) (s : State) → m ≡ imageOf s → n ≡ freedStored free m → n ≡ imageOf (withSequencer (cond free (selectionFreed (s .sequencer)) (s .sequencer)) s)
+freed-placed true s e f = f ∙ ap (freedStored true) e ∙ freed-set s (sequencerByte (selectionFreed ((stateAt (imageOf s)) .sequencer))) (freed-read s)
+freed-placed false s e f = f ∙ e
 
 -- one REQ more, and the automatic ACK released
 pub offset-placed : (m : List ℕ) (s : State) {offset : ℕ} → offset ≡ s .transfer .offset → m ≡ imageOf s → set m offsetPlace (offset + 1) ≡ imageOf (offsetB false true false s)

@@ -15,7 +15,7 @@ use Rattle.edges.specs.declared.edges.Edges.{Edges}
 use Rattle.rules.proofs.Logic.{left-true, right-true}
 use Rattle.rules.specs.Changed.{withQuiet}
 use Rattle.image.specs.Image.{imageOf, stateAt, IsImage}
-use Rattle.image.specs.Layout.{controlPlace, quietPlace, scsiseqPlace, scsisigPlace, upperPlace}
+use Rattle.image.specs.Layout.{controlPlace, quietPlace, scsiseqPlace, scsisigPlace, sequencerPlace, upperPlace}
 use Rattle.edges.specs.declared.last.Seen.{Seen}
 use Rattle.edges.specs.From.{rstRisesFrom, reqRisesFrom, synchronousReqFrom, quietFrom, edgesFrom, appliedFrom}
 use Rattle.edges.specs.ParityKept.{keptFrom}
@@ -23,7 +23,7 @@ use Rattle.edges.proofs.ParityKept.{kept-none}
 use Rattle.edges.specs.Since.{seenOf, rstOf, reqOf, mismatchedOf}
 use Rattle.edges.proofs.Placed.{quiet-placed}
 
--- what is read off the four bytes of an array is what is seen there
+-- what is read off the five bytes of an array is what is seen there
 pub rst-of : (m : List ℕ) → rstOf (seenOf m) ≡ rstSeen (stateAt m)
 unfolding rstOf rstSeen stateAt
 rst-of m = refl
@@ -36,21 +36,24 @@ pub mismatched-of : (m : List ℕ) → mismatchedOf (seenOf m) ≡ mismatched (s
 unfolding mismatchedOf mismatched connected matched bsySeen selSeen rstSeen stateAt
 mismatched-of m = refl
 
--- the four bytes, compared
-pub same-bytes : (m : List ℕ) (x : Seen) → (eqb (getD m controlPlace 0) (x .control) && eqb (getD m scsisigPlace 0) (x .sig) && eqb (getD m upperPlace 0) (x .upper) && eqb (getD m scsiseqPlace 0) (x .seq)) ≡ true → seenOf m ≡ x
+-- the five bytes, compared
+pub same-bytes : (m : List ℕ) (x : Seen) → (eqb (getD m controlPlace 0) (x .control) && eqb (getD m scsisigPlace 0) (x .sig) && eqb (getD m upperPlace 0) (x .upper) && eqb (getD m scsiseqPlace 0) (x .seq) && eqb (getD m sequencerPlace 0) (x .sequencer)) ≡ true → seenOf m ≡ x
 same-bytes m x h =
     let a = eqb (getD m controlPlace 0) (x .control) in
     let b = eqb (getD m scsisigPlace 0) (x .sig) in
     let c = eqb (getD m upperPlace 0) (x .upper) in
     let d = eqb (getD m scsiseqPlace 0) (x .seq) in
-    let h3 : (a && b && c) ≡ true = left-true (a && b && c) d h in
+    let e = eqb (getD m sequencerPlace 0) (x .sequencer) in
+    let h4 : (a && b && c && d) ≡ true = left-true (a && b && c && d) e h in
+    let h3 : (a && b && c) ≡ true = left-true (a && b && c) d h4 in
     let h2 : (a && b) ≡ true = left-true (a && b) c h3 in
     λ i.
     record {
-      seq = eqb-true (getD m scsiseqPlace 0) (x .seq) (right-true (a && b && c) d h) i;
+      seq = eqb-true (getD m scsiseqPlace 0) (x .seq) (right-true (a && b && c) d h4) i;
       sig = eqb-true (getD m scsisigPlace 0) (x .sig) (right-true a b h2) i;
       upper = eqb-true (getD m upperPlace 0) (x .upper) (right-true (a && b) c h3) i;
       control = eqb-true (getD m controlPlace 0) (x .control) (left-true a b h2) i;
+      sequencer = eqb-true (getD m sequencerPlace 0) (x .sequencer) (right-true (a && b && c && d) e h) i;
     }
 
 and-not : (a : Bool) → (a && not a) ≡ false

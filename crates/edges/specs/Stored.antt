@@ -6,11 +6,12 @@ use lib.Dec.{eqb}
 use lib.ListN.{getD, set}
 use Rattle.rules.specs.Numbers.{one}
 use Rattle.rules.specs.Registers.{scsiseqOf, scsiseqByte, sxfrctl0Of, sxfrctl0Byte, scsisigOf}
+use Rattle.rules.specs.Sequencer.{selectionFreed}
 use Rattle.rules.specs.declared.chip.Status.{Status}
 use Rattle.edges.specs.Components.{scsiseqB, sxfrctl0B, scsisigB}
 use Rattle.edges.specs.ParityKept.{errorOr}
-use Rattle.image.specs.Image.{scsisigByte, statusOf, statusByte, latchesOf, latchesByte}
-use Rattle.image.specs.Layout.{ackPlace, latchesPlace, offsetPlace, scsiBytesPlace, scsiCountPlace, scsiseqPlace, scsisigPlace, statusPlace, sxfrctl0Place}
+use Rattle.image.specs.Image.{stateAt, scsisigByte, sequencerByte, statusOf, statusByte, latchesOf, latchesByte}
+use Rattle.image.specs.Layout.{ackPlace, latchesPlace, offsetPlace, scsiBytesPlace, scsiCountPlace, scsiseqPlace, scsisigPlace, sequencerPlace, statusPlace, sxfrctl0Place}
 
 -- 340h, 341h and 343h
 abbrev pub registersStored : Bool → Bool → Bool → List ℕ → List ℕ
@@ -34,3 +35,7 @@ statusStored part m = set m statusPlace (statusByte (part (statusOf (getD m stat
 -- the latch of SCSIPERR
 abbrev pub latchesStored : Bool → List ℕ → List ℕ
 latchesStored error m = set m latchesPlace (latchesByte (errorOr error (latchesOf (getD m latchesPlace 0))))
+
+-- the sequencer's byte at bus free
+abbrev pub freedStored : Bool → List ℕ → List ℕ
+freedStored free m = cond free (set m sequencerPlace (sequencerByte (selectionFreed ((stateAt m) .sequencer)))) m

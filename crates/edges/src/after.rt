@@ -6,10 +6,11 @@ ghost use lib.ListN.{getD};
 ghost use Rattle.rules.specs.Numbers.{one};
 ghost use Rattle.rules.specs.Registers.{scsiseqOf, scsiseqByte, sxfrctl0Of, sxfrctl0Byte, scsisigOf};
 ghost use Rattle.rules.specs.Seen.{dataSeen};
+ghost use Rattle.rules.specs.Sequencer.{selectionFreed};
 ghost use Rattle.image.specs.Image.{imageOf, stateAt, IsImage, scsisigByte, statusOf, statusByte};
 ghost use Rattle.edges.specs.Components.{scsiseqB, sxfrctl0B, scsisigB, transferB, statusB};
 ghost use Rattle.edges.specs.Room.{Room};
-ghost use Rattle.edges.specs.Stored.{registersStored, offsetStored, statusStored};
+ghost use Rattle.edges.specs.Stored.{registersStored, offsetStored, statusStored, freedStored};
 ghost use Rattle.datapath.specs.Fits.{byteStored};
 ghost use Rattle.image.specs.Layout.{offsetPlace, scsiCountPlace};
 use crate::edges::Edges;
@@ -27,13 +28,18 @@ use image::layout::SCSI_BYTES;
 use image::layout::SCSI_COUNT;
 use image::layout::SCSISEQ;
 use image::layout::SCSISIG;
+use image::layout::SEQUENCER;
 use image::layout::STATUS;
 use image::layout::SXFRCTL0;
+use image::sequencer::sequencer;
+use image::sequencer::sequencer_byte;
 use registers::bytes::scsiseq_byte;
 use registers::bytes::scsiseq_of;
 use registers::bytes::scsisig_of;
 use registers::bytes::sxfrctl0_byte;
 use registers::bytes::sxfrctl0_of;
+use rules::chip::Selection;
+use rules::chip::Sequencer;
 use rules::chip::Status;
 use rules::registers::Scsiseq;
 use rules::registers::Scsisig;
@@ -213,4 +219,37 @@ pub fn status_in(m: &mut Image, g: Edges, changed: bool)
 {
     let v = status_after(g, changed, m[STATUS]);
     m[STATUS] = v;
+}
+
+// SELDO becomes 0, and SELDI where it is noted.
+fn freed(q: Sequencer) -> Sequencer
+    ensures { λ r. ⌜ r ≡ selectionFreed q ⌝ }
+{
+    let t = q.status;
+    let latches = q.latches;
+    let phase = q.phase;
+    let status = Selection {
+        seldo: false,
+        seldi: !q.noted & t.seldi,
+        selingo: t.selingo,
+        selto: t.selto,
+    };
+    Sequencer {
+        phase: phase,
+        ticks: q.ticks,
+        noted: false,
+        selid: q.selid,
+        status: status,
+        latches: latches,
+    }
+}
+
+// "bus free also clears SELDO, and SELDI where noted"
+pub fn freed_in(m: &mut Image, free: bool)
+    ensures { λ _. ⌜ now (m .exit) ≡ freedStored free (now (m .entry)) ⌝ }
+{
+    if free {
+        let v = sequencer_byte(freed(sequencer(m)));
+        m[SEQUENCER] = v;
+    }
 }

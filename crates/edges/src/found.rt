@@ -28,6 +28,9 @@ use image::layout::LINES_DATA;
 use image::layout::OFFSET;
 use image::layout::QUIET;
 use image::layout::SCSI_COUNT;
+use image::sequencer::drives_bsy;
+use image::sequencer::drives_sel;
+use image::sequencer::phase;
 use parity::is_even;
 
 // "RST rises"
@@ -122,12 +125,13 @@ fn sel_driven_by_others(m: &Image) -> bool
     (m[LINES_CONTROL] >> 3) % 2 == 1
 }
 
-// BSY or SEL seen, where a bus reset in the same event has taken the chip's own away.
+// BSY or SEL seen, where a bus reset in the same event has taken those of 343h away.
 pub fn busy(m: &Image, reset: bool) -> bool
     ensures { λ b. ⌜ b ≡ busyB reset (stateAt (now (m .entry))) ⌝ }
 {
     if reset {
-        bsy_driven_by_others(m) | sel_driven_by_others(m)
+        let p = phase(m);
+        bsy_driven_by_others(m) | drives_bsy(p) | sel_driven_by_others(m) | drives_sel(p)
     } else {
         bsy_seen(m) | sel_seen(m)
     }

@@ -6,10 +6,11 @@ pub struct Before {
     pub mismatched: bool,
 }
 
-// The bytes that it is read off: 340h, 343h, RST, and the lines in the order of 343h.
+// The bytes that it is read off: 340h, 343h, RST, the lines in the order of 343h, and the sequencer's phase.
 pub struct Seen {
     pub seq: u8,
     pub sig: u8,
     pub upper: u8,
     pub control: u8,
+    pub sequencer: u8,
 }

@@ -1,4 +1,4 @@
-// Step B, "Edges, in this order", over the chip in the bytes of one array.
+// Step B, "Edges, in this order", over the chip in the bytes of one array: the five steps of document 01.
 ghost use mathlib.Core.Path.{_≡_};
 ghost use Rattle.rules.specs.Seen.{rstSeen, reqSeen, mismatched};
 ghost use Rattle.image.specs.Image.{imageOf, stateAt, IsImage};
@@ -74,6 +74,7 @@ fn applied_in(m: &mut Image, g: Edges, was: Before)
     let seen = mismatched(m);
     after::status_in(m, g, seen & !was.mismatched);
     m[QUIET] = g.quiet;
+    after::freed_in(m, g.free);
 }
 
 // The rare edges: all are found, then applied.

@@ -26,9 +26,11 @@ use Rattle.rules.specs.declared.chip.Latches.{Latches}
 use Rattle.rules.specs.declared.chip.Phase.{Phase}
 use Rattle.rules.specs.declared.chip.Phase.the-variants.{Idle, Waiting, Arbitrating, Clearing, Selecting, Holding, Answering, Answered}
 use Rattle.rules.specs.Seen.{phaseNumber}
+use Rattle.rules.specs.declared.chip.Selection.{Selection}
+use Rattle.rules.specs.declared.chip.Sequencer.{Sequencer}
 use Rattle.laws.proofs.Bits.{one-below}
 use Rattle.laws.proofs.Lists.{padded-length, padded-take}
-use Rattle.image.specs.Image.{scsisigByte, scsirateByte, scsiidByte, statusByte, statusOf, latchesByte, latchesOf, phaseOf, imageOf, registersAt, linesAt, transferAt, sequencerAt, stateAt, IsImage}
+use Rattle.image.specs.Image.{scsisigByte, scsirateByte, scsiidByte, statusByte, statusOf, latchesByte, latchesOf, phaseOf, sequencerByte, statusesOf, imageOf, registersAt, linesAt, transferAt, sequencerAt, stateAt, IsImage}
 use Rattle.image.proofs.EightBits.{is-one, bit-0, bit-1, bit-2, bit-3, bit-4, bit-5, bit-6, bit-7}
 use Rattle.image.specs.Layout.{hostBytesPlace, scsiBytesPlace, stackBytesPlace}
 
@@ -267,28 +269,45 @@ module _ (b7 b6 b5 b4 b3 : Bool) (n : ℕ) (h : n < 8) where
   above-low : above % 8 ≡ n
   above-low = omega arith
 
+-- the phase, what is noted and the statuses, from the byte that they stand in
+module _ (q : Sequencer) where
+  abbrev t : Selection
+  t = q .status
+
+  abbrev n : ℕ
+  n = phaseNumber (q .phase)
+
+  pub phase-of-byte : phaseOf (sequencerByte q % 8) ≡ q .phase
+  phase-of-byte =
+      ap phaseOf (above-low (t .seldo) (t .seldi) (t .selto) (q .noted) (t .selingo) n (phase-below (q .phase))) ∙ phase-back (q .phase)
+
+  pub noted-of-byte : bit (sequencerByte q) 4 ≡ q .noted
+  noted-of-byte = above-4 (t .seldo) (t .seldi) (t .selto) (q .noted) (t .selingo) n (phase-below (q .phase))
+
+  pub statuses-of-byte : statusesOf (sequencerByte q) ≡ q .status
+  statuses-of-byte =
+      let f = phase-below (q .phase) in
+      λ i.
+      record {
+        seldo = above-7 (t .seldo) (t .seldi) (t .selto) (q .noted) (t .selingo) n f i;
+        seldi = above-6 (t .seldo) (t .seldi) (t .selto) (q .noted) (t .selingo) n f i;
+        selingo = above-3 (t .seldo) (t .seldi) (t .selto) (q .noted) (t .selingo) n f i;
+        selto = above-5 (t .seldo) (t .seldi) (t .selto) (q .noted) (t .selingo) n f i;
+      }
+
 pub sequencer-back : (s : State) → s .sequencer .ticks < counterSize → sequencerAt (imageOf s) ≡ s .sequencer
 unfolding imageOf
 sequencer-back s h =
     let q = s .sequencer in
-    let t = q .status in
     let k = q .latches in
-    let n = phaseNumber (q .phase) in
-    let f = phase-below (q .phase) in
     let b = bits false false false false (k .seldo) (k .seldi) (k .selingo) (k .selto) in
     λ i.
     record {
-      phase = (ap phaseOf (above-low (t .seldo) (t .seldi) (t .selto) (q .noted) (t .selingo) n f) ∙ phase-back (q .phase)) i;
+      phase = phase-of-byte q i;
       ticks = counter-back (q .ticks) h i;
-      noted = above-4 (t .seldo) (t .seldi) (t .selto) (q .noted) (t .selingo) n f i;
+      noted = noted-of-byte q i;
       selid = q .selid;
-      status =
-          record {
-            seldo = above-7 (t .seldo) (t .seldi) (t .selto) (q .noted) (t .selingo) n f i;
-            seldi = above-6 (t .seldo) (t .seldi) (t .selto) (q .noted) (t .selingo) n f i;
-            selingo = above-3 (t .seldo) (t .seldi) (t .selto) (q .noted) (t .selingo) n f i;
-            selto = above-5 (t .seldo) (t .seldi) (t .selto) (q .noted) (t .selingo) n f i;
-          };
+      status = statuses-of-byte q i;
       latches = record { seldo = b .three i; seldi = b .two i; selingo = b .one i; selto = b .zero i };
     }
 

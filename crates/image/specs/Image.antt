@@ -75,6 +75,9 @@ sequencerByte q =
     let t = q .status in
     byteOf (t .seldo) (t .seldi) (t .selto) (q .noted) (t .selingo) false false false + phaseNumber (q .phase)
 
+abbrev pub statusesOf : ℕ → Selection
+statusesOf v = record { seldo = bit v 7; seldi = bit v 6; selingo = bit v 3; selto = bit v 5 }
+
 abbrev pub selectionByte : Selection → ℕ
 selectionByte k = byteOf false false false false (k .seldo) (k .seldi) (k .selingo) (k .selto)
 
@@ -184,7 +187,7 @@ sequencerAt m =
       ticks = getD m ticksLowPlace 0 + 256 * getD m ticksMiddlePlace 0 + 65536 * getD m ticksHighPlace 0;
       noted = bit v 4;
       selid = getD m selidPlace 0;
-      status = record { seldo = bit v 7; seldi = bit v 6; selingo = bit v 3; selto = bit v 5 };
+      status = statusesOf v;
       latches = selectionOf (getD m selectionLatchesPlace 0);
     }
 

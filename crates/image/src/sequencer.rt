@@ -176,7 +176,7 @@ fn selection_byte(k: Selection) -> u8
     )
 }
 
-fn sequencer_byte(q: Sequencer) -> u8
+pub fn sequencer_byte(q: Sequencer) -> u8
     ensures { λ r. ⌜ r ≡ sequencerByte q ⌝ }
 {
     let p = q.phase;

@@ -8,4 +8,4 @@ unfolding rstOf reqOf mismatchedOf
 returns c = c .last-seen .ensures
 
 pub before-of-spec : {M : Type 1} → statement M
-before-of-spec = tie.close (tie.spec (λ c. search needs) (λ c. search needs) (λ c. search needs) (λ c. search needs) (λ c κs. search needs) returns)
+before-of-spec = tie.close (tie.spec (λ c. search needs) (λ c. search needs) (λ c. search needs) (λ c. search needs) (λ c. search needs) (λ c κs. search needs) returns)
