@@ -135,7 +135,7 @@ pub fn phase_data(p: Phase, id: u8) -> u8
     }
 }
 
-fn phase_number(p: Phase) -> u8
+pub fn phase_number(p: Phase) -> u8
     ensures { λ n. ⌜ n ≡ phaseNumber p ⌝ }
 {
     match p {

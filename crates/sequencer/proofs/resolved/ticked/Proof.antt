@@ -1,0 +1,12 @@
+use borrow.Author.Needs.{needs}
+use Rattle.sequencer.proofs.resolved.ticked.Statement.{statement}
+use Rattle.sequencer.proofs.resolved.ticked.Tie as tie
+
+returns : tie.Need-returns
+returns c = rw (c .before .if1 .taken) (c .tick-in .ensures)
+
+returns-2 : tie.Need-returns-2
+returns-2 c = rw (c .if1 .left)
+
+pub ticked-spec : {M : Type 1} → statement M
+ticked-spec = tie.close (tie.spec (λ c κs. search needs) returns returns-2)
