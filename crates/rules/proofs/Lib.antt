@@ -2,6 +2,7 @@ pub mod Computes
 pub mod Logic
 pub mod Sequencing
 pub mod InOrder
+pub mod StayIdle
 pub mod Marked
 pub mod Settling
 pub mod Rest
