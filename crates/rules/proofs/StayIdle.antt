@@ -15,7 +15,6 @@ use Rattle.rules.specs.declared.chip.Phase.the-variants.{Idle, Waiting, 
 use Rattle.rules.specs.declared.chip.Sequencer.{Sequencer}
 use Rattle.rules.specs.declared.map.Register.the-variants.{SCSISEQ}
 use Rattle.rules.specs.declared.records.Event.{Event}
-use Rattle.rules.specs.declared.records.Event.the-variants.{Write}
 use Rattle.rules.proofs.InOrder.{Spares, Keeps, before-req, b-keeps}
 use Rattle.rules.proofs.Logic.{never, cond-case}
 
