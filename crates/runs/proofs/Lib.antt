@@ -3,7 +3,9 @@ pub mod Access  -- a step by its outcomes
 pub mod Along  -- lists of records
 pub mod Settles  -- what settling keeps
 pub mod Spared  -- what an event that a run allows does not do
+pub mod StaysIdle  -- run-stays-idle
 pub mod Stages  -- what it leaves before settling
+pub mod Ticks  -- what a tick leaves
 pub mod WriteRun  -- write-run
 pub mod ReadRun  -- read-run, took-goes-in, read-is-answered
 pub mod Acks  -- run-counts-acks, write-run-acks, run-drives-no-other-ack
