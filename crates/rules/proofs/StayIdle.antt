@@ -2,7 +2,7 @@
 use Prim.Native.Nat.{ℕ}
 use mathlib.Core.Path.{_≡_, refl, ap, _∙_}
 use mathlib.Core.Bool.{Bool, true, false, cond}
-use Rattle.rules.specs.State.{State, powerReset}
+use Rattle.rules.specs.State.{State}
 use Rattle.rules.specs.Changed.{withRegisters, withQuiet, withSequencer}
 use Rattle.rules.specs.Seen.{phaseNumber, isPhase, rstSeen}
 use Rattle.rules.specs.Events.{writes, valueOf}
@@ -211,7 +211,3 @@ module _ (s : State) (e : Event) (r : rstSeen (afterA s e) ≡ true) where
   unfolding afterD finished afterB inOrder firstFour atReq
   reset-idles =
       phase-stays s _ (silent-phase _ _ _ (resetting-ticks _ _ (resetting-rises s (atReq s e) (before-req Resetting resetting s e r))))
-
-pub power-reset-off : SequencerOff powerReset
-unfolding powerReset
-power-reset-off = record { enselo = refl; enseli = refl; enrseli = refl; idle = refl }

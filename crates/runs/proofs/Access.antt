@@ -1,4 +1,4 @@
--- A step by its outcomes: refused, a power reset, or done.
+-- A step by its outcomes: refused, a power reset, done, or ticks one by one.
 use mathlib.Core.Path.{_≡_, refl, sym}
 use mathlib.Core.Bool.{Bool, true, false, _||_, cond}
 use mathlib.Core.List.{List}

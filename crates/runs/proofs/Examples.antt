@@ -219,12 +219,12 @@ pub not-a-clearing : allClear unstarted tooEarly ≡ false
 unfolding follows unstarted
 not-a-clearing = refl
 
--- A READ RUN, 8 bits: an asynchronous byte, a bus reset, and what is left in the FIFO is read; refused: a port write, a read with no byte
+-- A READ RUN, 8 bits: an asynchronous byte, two ticks, a bus reset, and what is left in the FIFO is read; refused: a port write, a read with no byte
 unfoldable pub inward : State
 inward = after powerReset (records (0x320000C0 ∷ 0x23000040 ∷ 0x210000E0 ∷ []))
 
 abbrev inwardRun : List (List ℕ)
-inwardRun = records (0xA0010446 ∷ 0xA0000044 ∷ 0xA0010846 ∷ 0x36000041 ∷ 0x56000000 ∷ 0xA0000144 ∷ 0x56000000 ∷ 0x56000000 ∷ [])
+inwardRun = records (0xA0010446 ∷ 0xC0000002 ∷ 0xA0000044 ∷ 0xA0010846 ∷ 0x36000041 ∷ 0x56000000 ∷ 0xA0000144 ∷ 0x56000000 ∷ 0x56000000 ∷ [])
 
 pub inward-starts : Starts false inward
 unfolding follows inward
