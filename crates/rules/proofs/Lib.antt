@@ -4,6 +4,7 @@ pub mod Sequencing
 pub mod Driving
 pub mod Resolving
 pub mod InOrder
+pub mod StayIdle
 pub mod Marked
 pub mod Settling
 pub mod Rest

@@ -1,21 +1,22 @@
--- A step by its outcomes: refused, a power reset, or done.
+-- A step by its outcomes: refused, a power reset, done, or ticks one by one.
 use mathlib.Core.Path.{_≡_, refl, sym}
 use mathlib.Core.Bool.{Bool, true, false, _||_, cond}
 use mathlib.Core.List.{List}
-use Prim.Native.Nat.{ℕ}
+use Prim.Native.Nat.{ℕ, zero, suc}
 use Rattle.rules.specs.State.{State, powerReset}
 use Rattle.rules.specs.Records.{decode}
+use Rattle.rules.specs.Events.{ticksOf}
 use Rattle.rules.specs.Codes.{absent, testValue, shut, noRoom, noBytes, accessCode, refusedValue, isDone}
 use Rattle.rules.specs.StepB.{beyond, atReq}
 use Rattle.rules.specs.Answers.{Stepped}
-use Rattle.rules.specs.Step.{ended, refused, done, access, stepEvent, stepDecoded, step}
+use Rattle.rules.specs.Step.{ended, refused, done, access, joined, singleTicks, ticksTaken, stepEvent, stepDecoded, step}
 use Rattle.rules.specs.declared.codes.Code.{Code}
 use Rattle.rules.specs.declared.codes.Code.the-variants.{Done, Malformed, Absent, Shut, NoRoom, NoBytes, BeyondLimit, TestValue}
 use Rattle.rules.specs.declared.records.Event.{Event}
 use Rattle.rules.specs.declared.records.Event.the-variants.{PowerReset, Write, Read, WordWrite, WordRead, Drive, Ticks}
 use Rattle.rules.specs.declared.records.Decoded.{Decoded}
 use Rattle.rules.specs.declared.records.Decoded.the-variants.{Well, Ill}
-use Rattle.rules.proofs.Logic.{never}
+use Rattle.rules.proofs.Logic.{never, cond-case}
 use Rattle.runs.specs.Comes.{isRefusal, says, mayCome}
 
 -- the first of five checks is a refusal, or none holds
@@ -30,7 +31,7 @@ firstOf-refuses false false false true f h = refl
 firstOf-refuses false false false false true h = refl
 firstOf-refuses false false false false false h = absurd (never (sym h))
 
-refusal : (s : State) (e : Event) → isDone (accessCode s e) ≡ false → isRefusal (accessCode s e) ≡ true
+pub refusal : (s : State) (e : Event) → isDone (accessCode s e) ≡ false → isRefusal (accessCode s e) ≡ true
 unfolding accessCode
 refusal s e h = firstOf-refuses (absent e) (testValue e) (shut (s .registers) e) (noRoom s e) (noBytes s e) h
 
@@ -63,37 +64,53 @@ done-code s e = go (beyond s (atReq s e))
     go true = refl
     go false = refl
 
-module _ (s : State) (Q : Decoded → Stepped → Type 0) (stays : (d : Decoded) (code : Code) (value : ℕ) → isRefusal code ≡ true → Q d (refused s code value)) (resets : Q (Well PowerReset) (ended powerReset Done 0)) (goes : (e : Event) → isDone (accessCode s e) ≡ true → Q (Well e) (done s e)) where
-  access-law : (e : Event) → Q (Well e) (access s e)
+-- TICKS ONE BY ONE (R-1): what holds of an event that ends at once, of a tick that is done, and of a tick with those after it holds of
+-- any number of ticks
+module _ (R : State → Stepped → Type 0) (none : (s : State) (code : Code) (value : ℕ) → R s (ended s code value)) (one : (s : State) → isDone (accessCode s (Ticks 1)) ≡ true → R s (done s (Ticks 1))) (more : (s : State) (first rest : Stepped) → R s first → R (first .state) rest → R s (joined first rest)) where
+  one-tick : (s : State) → R s (access s (Ticks 1))
   unfolding access
-  access-law e = go (isDone (accessCode s e)) refl
-    where
-      go : (t : Bool) → isDone (accessCode s e) ≡ t → Q (Well e) (cond t (done s e) (refused s (accessCode s e) (refusedValue e)))
-      go true q = goes e q
-      go false q = stays (Well e) (accessCode s e) (refusedValue e) (refusal s e q)
+  one-tick s =
+      cond-case (R s) (isDone (accessCode s (Ticks 1))) _ _ (one s) (λ q. none s (accessCode s (Ticks 1)) (refusedValue (Ticks 1)))
+
+  pub ticks-law : (n : ℕ) (s : State) → R s (singleTicks n s)
+  unfolding singleTicks
+  ticks-law zero s = none s Done 0
+  ticks-law (suc n) s =
+      more s (access s (Ticks 1)) (singleTicks n ((access s (Ticks 1)) .state)) (one-tick s) (ticks-law n ((access s (Ticks 1)) .state))
+
+module _ (s : State) (Q : Decoded → Stepped → Type 0) (stays : (d : Decoded) (code : Code) (value : ℕ) → isRefusal code ≡ true → Q d (refused s code value)) (resets : Q (Well PowerReset) (ended powerReset Done 0)) (goes : (e : Event) → ticksOf e ≡ 0 → isDone (accessCode s e) ≡ true → Q (Well e) (done s e)) (ticks : (n : ℕ) → Q (Well (Ticks (suc n))) (singleTicks (suc n) s)) where
+  access-law : (e : Event) → ticksOf e ≡ 0 → Q (Well e) (access s e)
+  unfolding access
+  access-law e t =
+      cond-case (Q (Well e)) (isDone (accessCode s e)) _ _ (goes e t) (λ q. stays (Well e) (accessCode s e) (refusedValue e) (refusal s e q))
+
+  taken-law : (n : ℕ) → Q (Well (Ticks n)) (ticksTaken n s)
+  unfolding ticksTaken ticksOf
+  taken-law zero = access-law (Ticks 0) refl
+  taken-law (suc n) = ticks n
 
   event-law : (e : Event) → Q (Well e) (stepEvent s e)
-  unfolding stepEvent
+  unfolding stepEvent ticksOf
   event-law PowerReset = resets
-  event-law (Write offset value) = access-law (Write offset value)
-  event-law (Read offset) = access-law (Read offset)
-  event-law (WordWrite word) = access-law (WordWrite word)
-  event-law WordRead = access-law WordRead
-  event-law (Drive lines) = access-law (Drive lines)
-  event-law (Ticks n) = access-law (Ticks n)
+  event-law (Write offset value) = access-law (Write offset value) refl
+  event-law (Read offset) = access-law (Read offset) refl
+  event-law (WordWrite word) = access-law (WordWrite word) refl
+  event-law WordRead = access-law WordRead refl
+  event-law (Drive lines) = access-law (Drive lines) refl
+  event-law (Ticks n) = taken-law n
 
   decoded-law : (d : Decoded) → Q d (stepDecoded s d)
   unfolding stepDecoded
   decoded-law (Well e) = event-law e
   decoded-law Ill = stays Ill Malformed 0 refl
 
-  -- what holds of a refusal, of a power reset and of an event that is done holds of the step
+  -- what holds of a refusal, of a power reset, of an event without ticks that is done, and of ticks one by one holds of the step
   pub step-law : (bytes : List ℕ) → Q (decode bytes) (step s bytes)
   unfolding step
   step-law bytes = decoded-law (decode bytes)
 
 -- and where the record may come, only an event that is allowed is to be looked at
-module _ (allows : Event → Bool) (power : allows PowerReset ≡ false) (s : State) (Q : Decoded → Stepped → Type 0) (stays : (d : Decoded) (code : Code) (value : ℕ) → isRefusal code ≡ true → Q d (refused s code value)) (goes : (e : Event) → allows e ≡ true → isDone (accessCode s e) ≡ true → Q (Well e) (done s e)) where
+module _ (allows : Event → Bool) (power : allows PowerReset ≡ false) (s : State) (Q : Decoded → Stepped → Type 0) (stays : (d : Decoded) (code : Code) (value : ℕ) → isRefusal code ≡ true → Q d (refused s code value)) (goes : (e : Event) → allows e ≡ true → ticksOf e ≡ 0 → isDone (accessCode s e) ≡ true → Q (Well e) (done s e)) (ticks : (n : ℕ) → Q (Well (Ticks (suc n))) (singleTicks (suc n) s)) where
   abbrev Guarded : Decoded → Stepped → Type 0
   Guarded d r = (isRefusal (r .code) || says allows d) ≡ true → Q d r
 
@@ -107,4 +124,4 @@ module _ (allows : Event → Bool) (power : allows PowerReset ≡ false) (s : St
   pub come-law : (bytes : List ℕ) → mayCome allows s bytes ≡ true → Q (decode bytes) (step s bytes)
   unfolding mayCome
   come-law bytes h =
-      step-law s Guarded (λ d code value q k. stays d code value q) power-out (λ e q k. goes e (unless e k) q) bytes h
+      step-law s Guarded (λ d code value q k. stays d code value q) power-out (λ e t q k. goes e (unless e k) t q) (λ n k. ticks n) bytes h

@@ -19,6 +19,8 @@ use Rattle.rules.specs.declared.records.Lines.{Lines}
 use Rattle.rules.specs.declared.chip.Status.{Status}
 use Rattle.rules.specs.declared.chip.Latches.{Latches}
 use Rattle.rules.specs.declared.chip.Stack.{Stack}
+use Rattle.rules.specs.declared.chip.Phase.the-variants.{Idle}
+use Rattle.rules.specs.declared.chip.Sequencer.{Sequencer}
 use Rattle.rules.specs.declared.codes.Code.the-variants.{Done}
 use Rattle.rules.specs.declared.map.Register.the-variants.{STCNT0, STCNT1, STCNT2}
 use Rattle.runs.specs.Comes.{says, allCome, along}
@@ -61,22 +63,38 @@ running =
       brstcntrl = 0;
     }
 
+-- the sequencer idle, whatever its other parts are
+abbrev idleOf : Sequencer → Sequencer
+idleOf q = record { phase = Idle; ticks = q .ticks; noted = q .noted; selid = q .selid; status = q .status; latches = q .latches }
+
 -- a state of the run, whatever its other parts are
-abbrev made : Lines → Transfer → Status → Latches → Stack → Bool → ℕ → ℕ → State
-made l t a b c k d e =
-    record { lines = l; registers = running; transfer = t; status = a; latches = b; stack = c; keptbad = k; quiet = d; identity = e }
+abbrev made : Lines → Transfer → Status → Latches → Stack → Bool → ℕ → ℕ → Sequencer → State
+made l t a b c k d e q =
+    record {
+      lines = l;
+      registers = running;
+      transfer = t;
+      status = a;
+      latches = b;
+      stack = c;
+      keptbad = k;
+      quiet = d;
+      identity = e;
+      sequencer = idleOf q;
+    }
 
 record Stage (l : Lines) (t : Transfer) (s : State) : Type 0 where
   lines : s .lines ≡ l
   registers : s .registers ≡ running
   transfer : s .transfer ≡ t
+  idle : s .sequencer .phase ≡ Idle
 
-stage-made : (l : Lines) (t : Transfer) (s : State) → Stage l t s → s ≡ made l t (s .status) (s .latches) (s .stack) (s .keptbad) (s .quiet) (s .identity)
-stage-made l t s p = rw (p .lines, p .registers, p .transfer)
+stage-made : (l : Lines) (t : Transfer) (s : State) → Stage l t s → s ≡ made l t (s .status) (s .latches) (s .stack) (s .keptbad) (s .quiet) (s .identity) (s .sequencer)
+stage-made l t s p = rw (p .lines, p .registers, p .transfer, p .idle)
 
 -- what holds of every state of a stage that is made so holds of every state of the stage
-at-stage : (P : State → Type 0) (l : Lines) (t : Transfer) → ((a : Status) (b : Latches) (c : Stack) (k : Bool) (d e : ℕ) → P (made l t a b c k d e)) → (s : State) → Stage l t s → P s
-at-stage P l t f s p = subst⁻¹ P (stage-made l t s p) (f (s .status) (s .latches) (s .stack) (s .keptbad) (s .quiet) (s .identity))
+at-stage : (P : State → Type 0) (l : Lines) (t : Transfer) → ((a : Status) (b : Latches) (c : Stack) (k : Bool) (d e : ℕ) (q : Sequencer) → P (made l t a b c k d e q)) → (s : State) → Stage l t s → P s
+at-stage P l t f s p = subst⁻¹ P (stage-made l t s p) (f (s .status) (s .latches) (s .stack) (s .keptbad) (s .quiet) (s .identity) (s .sequencer))
 
 -- between two cycles, after the write, and after the handshake
 abbrev waiting : ℕ → ℕ → Transfer
@@ -93,17 +111,17 @@ record Goes (l : Lines) (t : Transfer) (sent : List ℕ) (r : Stepped) : Type 0 
   stage : Stage l t (r .state)
   sends : r .sent ≡ sent
 
-writes-byte : (n last : ℕ) (a : Status) (b : Latches) (c : Stack) (k : Bool) (d e : ℕ) → Goes (linesOf 4) (holding n last) [] (step (made (linesOf 4) (waiting n last) a b c k d e) writing)
+writes-byte : (n last : ℕ) (a : Status) (b : Latches) (c : Stack) (k : Bool) (d e : ℕ) (q : Sequencer) → Goes (linesOf 4) (holding n last) [] (step (made (linesOf 4) (waiting n last) a b c k d e q) writing)
 unfolding follows
-writes-byte n last a b c k d e = record { stage = record { lines = refl; registers = refl; transfer = refl }; sends = refl }
+writes-byte n last a b c k d e q = record { stage = record { lines = refl; registers = refl; transfer = refl; idle = refl }; sends = refl }
 
-asks-byte : (n last : ℕ) (a : Status) (b : Latches) (c : Stack) (k : Bool) (d e : ℕ) → Goes (linesOf 6) (handed ((counterStep Up n) .value)) (0x55 ∷ []) (step (made (linesOf 4) (holding n last) a b c k d e) asking)
+asks-byte : (n last : ℕ) (a : Status) (b : Latches) (c : Stack) (k : Bool) (d e : ℕ) (q : Sequencer) → Goes (linesOf 6) (handed ((counterStep Up n) .value)) (0x55 ∷ []) (step (made (linesOf 4) (holding n last) a b c k d e q) asking)
 unfolding follows
-asks-byte n last a b c k d e = record { stage = record { lines = refl; registers = refl; transfer = refl }; sends = refl }
+asks-byte n last a b c k d e q = record { stage = record { lines = refl; registers = refl; transfer = refl; idle = refl }; sends = refl }
 
-releases : (n : ℕ) (a : Status) (b : Latches) (c : Stack) (k : Bool) (d e : ℕ) → Goes (linesOf 4) (waiting n 0x55) [] (step (made (linesOf 6) (handed n) a b c k d e) releasing)
+releases : (n : ℕ) (a : Status) (b : Latches) (c : Stack) (k : Bool) (d e : ℕ) (q : Sequencer) → Goes (linesOf 4) (waiting n 0x55) [] (step (made (linesOf 6) (handed n) a b c k d e q) releasing)
 unfolding follows
-releases n a b c k d e = record { stage = record { lines = refl; registers = refl; transfer = refl }; sends = refl }
+releases n a b c k d e q = record { stage = record { lines = refl; registers = refl; transfer = refl; idle = refl }; sends = refl }
 
 -- records after which the counter is n, and which send these bytes
 record Passes (n last : ℕ) (s : State) (records : List (List ℕ)) (sent : List ℕ) : Type 0 where
@@ -176,9 +194,9 @@ record Ends (s : State) : Type 0 where
   middle : 0 < length (readAnswers STCNT1 ((step s cutRecord) .state) readRecords)
   high : 0 < length (readAnswers STCNT2 ((step s cutRecord) .state) readRecords)
 
-ends : (n last : ℕ) (a : Status) (b : Latches) (c : Stack) (k : Bool) (d e : ℕ) → Ends (made (linesOf 4) (waiting n last) a b c k d e)
+ends : (n last : ℕ) (a : Status) (b : Latches) (c : Stack) (k : Bool) (d e : ℕ) (q : Sequencer) → Ends (made (linesOf 4) (waiting n last) a b c k d e q)
 unfolding follows
-ends n last a b c k d e = record { code = refl; calmly = refl; low = lit< tt; middle = lit< tt; high = lit< tt }
+ends n last a b c k d e q = record { code = refl; calmly = refl; low = lit< tt; middle = lit< tt; high = lit< tt }
 
 is-cut : says isCut (decode cutRecord) ≡ true
 unfolding follows
@@ -190,11 +208,24 @@ begin = after powerReset (records (0x320000C8 ∷ 0x210000E0 ∷ 0xA0000004 ∷ 
 
 begin-stage : Stage (linesOf 4) (waiting 0 0) begin
 unfolding begin follows
-begin-stage = record { lines = refl; registers = refl; transfer = refl }
+begin-stage = record { lines = refl; registers = refl; transfer = refl; idle = refl }
 
 begin-starts : Starts true begin
 unfolding begin follows
-begin-starts = record { host = refl; scsi = refl; counter = refl; offset = refl; acko = refl; opened = refl; direction = refl }
+begin-starts =
+    record {
+      host = refl;
+      scsi = refl;
+      counter = refl;
+      offset = refl;
+      acko = refl;
+      opened = refl;
+      direction = refl;
+      enselo = refl;
+      enseli = refl;
+      enrseli = refl;
+      idle = refl;
+    }
 
 unfoldable pub roundOf : ℕ → Round
 roundOf k = record { run = cycles k; cut = cutRecord; reading = readRecords; clearing = [] }

@@ -2,7 +2,7 @@
 use mathlib.Core.Path.{_≡_, refl, sym, _∙_, ap}
 use mathlib.Core.Bool.{Bool, true, false, not, _&&_, _||_, cond}
 use mathlib.Core.List.{List, [], _∷_, _++_, append-nil}
-use Prim.Native.Nat.{ℕ, _+_, _*_, _%_, _<_}
+use Prim.Native.Nat.{ℕ, suc, _+_, _*_, _%_, _<_}
 use native.Mathlib.Omega.{arith}
 use lib.Dec.{eqb}
 use lib.ListN.{length, take, getD}
@@ -15,14 +15,14 @@ use Rattle.rules.specs.State.{State, powerReset}
 use Rattle.rules.specs.Records.{decode}
 use Rattle.rules.specs.Counter.{counterByte}
 use Rattle.rules.specs.Reads.{readOf, readMapped, valueRead}
-use Rattle.rules.specs.Events.{writes, reads, valueOf}
+use Rattle.rules.specs.Events.{writes, reads, valueOf, ticksOf}
 use Rattle.rules.specs.Codes.{accessCode, isDone}
 use Rattle.rules.specs.StepA.{registersA, afterA}
 use Rattle.rules.specs.StepB.{afterB}
 use Rattle.rules.specs.StepC.{conditions, started, turns, settledC}
 use Rattle.rules.specs.StepD.{finished, afterD}
 use Rattle.rules.specs.Answers.{Stepped}
-use Rattle.rules.specs.Step.{ended, refused, done, step, after}
+use Rattle.rules.specs.Step.{ended, refused, done, singleTicks, step, after}
 use Rattle.rules.specs.declared.codes.Code.{Code}
 use Rattle.rules.specs.declared.codes.Code.the-variants.{Done, Malformed, Absent, Shut, NoRoom, NoBytes, BeyondLimit, TestValue}
 use Rattle.rules.specs.declared.map.Register.{Register}
@@ -40,7 +40,7 @@ use Rattle.runs.specs.Cut.{cutValue, isCut, setsScsien, calm, readAnswer
 use Rattle.runs.specs.Rounds.{Round, recordsOf, afterCut, afterReading, takenIn, numberRead, Proceeds}
 use Rattle.runs.proofs.Along.{after-append, along-append, come-append, said-comes}
 use Rattle.runs.proofs.WriteRun.{WriteMoment, write-run}
-use Rattle.runs.proofs.Access.{step-law, come-law}
+use Rattle.runs.proofs.Access.{ticks-law, step-law, come-law}
 use Rattle.runs.proofs.Settles.{Idle, idle-settles}
 use Rattle.runs.proofs.Spared.{Spared, spared}
 use Rattle.runs.proofs.Stages.{Held, held-after, stays-zero, counter-before}
@@ -81,6 +81,20 @@ calm-A s e h o =
     stays-zero (λ x. x .scsien) (writes e SXFRCTL0) (sxfrctl0Of (valueOf e)) (s .registers .sxfrctl0)
     (not-true (setsScsien e) (right-true (runAllows e) (not (setsScsien e)) h)) o
 
+-- ticks one by one
+abbrev QuietTicks : Bool → State → Stepped → Type 0
+QuietTicks w s r = s .registers .sxfrctl0 .scsien ≡ false → Held w (s .registers) → Quiet w s (r .state) (r .sent)
+
+quiet-ticks : (w : Bool) (n : ℕ) (s : State) → QuietTicks w s (singleTicks n s)
+unfolding ended calm setsScsien writes
+quiet-ticks w =
+    ticks-law (QuietTicks w) (λ s code value o h. record { off = o; held = h; same = refl; none = refl })
+    (λ s q o h. done-quiet w s (Ticks 1) (spared (Ticks 1) refl) h (calm-A s (Ticks 1) refl o))
+    (λ s first rest f g o h.
+    let a = f o h in
+    let b = g (a .off) (a .held) in
+    record { off = b .off; held = b .held; same = b .same ∙ a .same; none = rw (a .none) (b .none) })
+
 module _ (w : Bool) (s : State) (o : s .registers .sxfrctl0 .scsien ≡ false) (h : Held w (s .registers)) where
   calm-refused : (d : Decoded) (code : Code) (value : ℕ) → isRefusal code ≡ true → Quiet w s ((refused s code value) .state) ((refused s code value) .sent)
   unfolding ended
@@ -90,7 +104,7 @@ module _ (w : Bool) (s : State) (o : s .registers .sxfrctl0 .scsien ≡ false) (
   unfolding calm
   step-quiet =
       come-law calm refl s (λ d r. Quiet w s (r .state) (r .sent)) calm-refused
-      (λ e c q. done-quiet w s e (spared e (calm-allowed e c)) h (calm-A s e c o))
+      (λ e c t q. done-quiet w s e (spared e (calm-allowed e c)) h (calm-A s e c o)) (λ n. quiet-ticks w (suc n) s o h)
 
 pub calm-quiet : (w : Bool) (s : State) (records : List (List ℕ)) → s .registers .sxfrctl0 .scsien ≡ false → Held w (s .registers) → allCome calm s records ≡ true → Quiet w s (after s records) (along sentBy s records)
 calm-quiet w s [] o h q = record { off = o; held = h; same = refl; none = refl }
@@ -146,10 +160,14 @@ module _ (w : Bool) (s : State) (h : Held w (s .registers)) where
   unfolding isCut writes
   cut-reset k c = absurd (never k)
 
+  cut-ticks : (n : ℕ) → Stops (Well (Ticks (suc n))) (singleTicks (suc n) s)
+  unfolding isCut writes
+  cut-ticks n k c = absurd (never k)
+
   -- a cut that gets code 0 stops the run
   pub cut-stops : (bytes : List ℕ) → says isCut (decode bytes) ≡ true → (step s bytes) .code ≡ Done → Quiet w s ((step s bytes) .state) (sentBy s bytes)
   cut-stops bytes k c =
-      step-law s Stops cut-refused cut-reset (λ e q k c. done-quiet w s e (spared e (cut-allowed e k)) h (cut-A s e k)) bytes k (ap isDone c)
+      step-law s Stops cut-refused cut-reset (λ e t q k c. done-quiet w s e (spared e (cut-allowed e k)) h (cut-A s e k)) cut-ticks bytes k (ap isDone c)
 
 -- a done read gives what the register reads
 module _ (r : Register) (there : readAt (offsetOf r) ≡ Present r) (s : State) where
@@ -174,12 +192,16 @@ module _ (r : Register) (there : readAt (offsetOf r) ≡ Present r) (s : State) 
   gives-value (Drive lines) k = absurd (never k)
   gives-value (Ticks n) k = absurd (never k)
 
-  gives-done : (e : Event) → isDone (accessCode s e) ≡ true → Gives (Well e) (done s e)
+  gives-done : (e : Event) → ticksOf e ≡ 0 → isDone (accessCode s e) ≡ true → Gives (Well e) (done s e)
   unfolding done
-  gives-done e q c k = gives-value e k
+  gives-done e t q c k = gives-value e k
+
+  gives-ticks : (n : ℕ) → Gives (Well (Ticks (suc n))) (singleTicks (suc n) s)
+  unfolding reads
+  gives-ticks n c k = absurd (never k)
 
   pub read-gives : (bytes : List ℕ) → isDone ((step s bytes) .code) ≡ true → says (λ e. reads e r) (decode bytes) ≡ true → (step s bytes) .value ≡ readOf s r
-  read-gives = step-law s Gives gives-refused gives-reset gives-done
+  read-gives = step-law s Gives gives-refused gives-reset gives-done gives-ticks
 
 -- the first done read of a byte of the counter, whatever calm records come before it
 module _ (w : Bool) (r : Register) (k : ℕ) (there : readAt (offsetOf r) ≡ Present r) (byte : (s : State) → readOf s r ≡ counterByte k (s .transfer .counter)) where

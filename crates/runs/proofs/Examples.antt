@@ -6,18 +6,19 @@ use Prim.Native.Nat.{ℕ, zero, suc, _+_, _*_}
 use Rattle.rules.specs.State.{State, powerReset}
 use Rattle.rules.specs.Examples.{bytesOf}
 use Rattle.rules.specs.Step.{step, after}
+use Rattle.rules.specs.declared.chip.Phase.the-variants.{Selecting}
 use Rattle.rules.specs.declared.map.Register.the-variants.{SCSIRATE}
 use Rattle.rules.proofs.Computes.{computes}
 use Rattle.runs.specs.Comes.{mayCome, allCome, along}
-use Rattle.runs.specs.Run.{Starts, keepsRun, writeAllowed, runAllows, sentBy, hostRead, tookAtReq, tookByHandshakes, chipTook}
+use Rattle.runs.specs.Run.{Starts, keepsRun, writeAllowed, runAllows, sentBy, hostRead, tookAtReq, tookByHandshakes, tookInTicks, tookByTicks, chipTook}
 use Rattle.runs.specs.Cut.{cutValue, isCut, setsScsien, calm, readAnswer}
-use Rattle.runs.specs.Clearing.{switchedOff, bothEmpty, mayClear, allClear, writeRecord, clearingOf}
+use Rattle.runs.specs.Clearing.{switchedOff, bothEmpty, mayClear, allClear, writeRecord, fromManual, clearingOf, shortClearingOf}
 use Rattle.runs.specs.Rounds.{Round, Chain, taken, reached, AllCleared}
 use Rattle.runs.proofs.Tests.{chain-by-test, cleared-by-test}
 
 -- one name opens all that a chain is made of
 unfoldable pub follows : ℕ
-unfolding computes mayCome tookAtReq tookByHandshakes keepsRun writeAllowed cutValue isCut setsScsien calm readAnswer switchedOff bothEmpty mayClear clearingOf
+unfolding computes mayCome tookAtReq tookByHandshakes tookInTicks tookByTicks keepsRun writeAllowed cutValue isCut setsScsien calm readAnswer switchedOff bothEmpty mayClear fromManual clearingOf shortClearingOf
 follows = 0
 
 -- records, each written as one number
@@ -63,14 +64,14 @@ freeRound =
       clearing = writeRecord SCSIRATE 0x04 ∷ clearingOf true;
     }
 
--- 8 bits, synchronous: two REQ before the bytes; refused: a port write of 16 bits
+-- 8 bits, synchronous: two REQ before the bytes; refused: a port write of 16 bits; no pulse on RST in its clearing
 abbrev synchronousRound : Round
 synchronousRound =
     record {
       run = records (0xA0000006 ∷ 0xA0000004 ∷ 0xA0000006 ∷ 0xA0000004 ∷ 0x36000045 ∷ 0x60004746 ∷ 0x36000046 ∷ 0x36000047 ∷ []);
       cut = bytesOf 4 0x21000000;
       reading = reads;
-      clearing = clearingOf false;
+      clearing = shortClearingOf false;
     }
 
 -- 16 bits, synchronous: the bytes before the REQ; SCSIEN off and on again within the run
@@ -102,6 +103,36 @@ four-taken = refl
 pub four-reached : reached 0 ready fourRounds ≡ 8
 unfolding follows ready
 four-reached = refl
+
+-- A SELECTION BEFORE THE RUN: the IDs, ENSELO with ENAUTOATNO, and 96 ticks to the waiting for BSY; no run starts there
+unfoldable pub selecting : State
+selecting = after powerReset (records (0x25000072 ∷ 0x20000048 ∷ 0xC0000060 ∷ []))
+
+pub selecting-waits : selecting .sequencer .phase ≡ Selecting
+unfolding follows selecting
+selecting-waits = refl
+
+-- the target answers, ATN is taken back, 340h is written with 0, and a run can start
+unfoldable pub selectedTarget : State
+selectedTarget = after selecting (records (0xA0000004 ∷ 0x2C000040 ∷ 0x20000000 ∷ 0x32000088 ∷ 0x210000E0 ∷ []))
+
+-- it takes two bytes
+abbrev selectedRound : Round
+selectedRound =
+    record {
+      run = records (0x60004241 ∷ 0xA0000006 ∷ 0xA0000004 ∷ 0xA0000006 ∷ 0xC0000003 ∷ []);
+      cut = bytesOf 4 0x21000060;
+      reading = reads;
+      clearing = shortClearingOf false;
+    }
+
+pub selected-round : Chain (0x41 ∷ 0x42 ∷ []) 0 selectedTarget (selectedRound ∷ [])
+unfolding follows selecting selectedTarget
+selected-round = chain-by-test (0x41 ∷ 0x42 ∷ []) 0 selectedTarget (selectedRound ∷ []) refl
+
+pub selected-taken : taken selectedTarget (selectedRound ∷ []) ≡ 0x41 ∷ 0x42 ∷ []
+unfolding follows selecting selectedTarget
+selected-taken = refl
 
 -- n word writes of the bytes from b on
 abbrev wordsFrom : ℕ → ℕ → List (List ℕ)
@@ -170,23 +201,47 @@ sent-outside = refl
 pub starts-after-it : Starts true (after unstarted tooEarly)
 unfolding follows unstarted
 starts-after-it =
-    record { host = refl; scsi = refl; counter = refl; offset = refl; acko = refl; opened = refl; direction = refl }
+    record {
+      host = refl;
+      scsi = refl;
+      counter = refl;
+      offset = refl;
+      acko = refl;
+      opened = refl;
+      direction = refl;
+      enselo = refl;
+      enseli = refl;
+      enrseli = refl;
+      idle = refl;
+    }
 
 pub not-a-clearing : allClear unstarted tooEarly ≡ false
 unfolding follows unstarted
 not-a-clearing = refl
 
--- A READ RUN, 8 bits: an asynchronous byte, a bus reset, and what is left in the FIFO is read; refused: a port write, a read with no byte
+-- A READ RUN, 8 bits: an asynchronous byte, two ticks, a bus reset, and what is left in the FIFO is read; refused: a port write, a read with no byte
 unfoldable pub inward : State
 inward = after powerReset (records (0x320000C0 ∷ 0x23000040 ∷ 0x210000E0 ∷ []))
 
 abbrev inwardRun : List (List ℕ)
-inwardRun = records (0xA0010446 ∷ 0xA0000044 ∷ 0xA0010846 ∷ 0x36000041 ∷ 0x56000000 ∷ 0xA0000144 ∷ 0x56000000 ∷ 0x56000000 ∷ [])
+inwardRun = records (0xA0010446 ∷ 0xC0000002 ∷ 0xA0000044 ∷ 0xA0010846 ∷ 0x36000041 ∷ 0x56000000 ∷ 0xA0000144 ∷ 0x56000000 ∷ 0x56000000 ∷ [])
 
 pub inward-starts : Starts false inward
 unfolding follows inward
 inward-starts =
-    record { host = refl; scsi = refl; counter = refl; offset = refl; acko = refl; opened = refl; direction = refl }
+    record {
+      host = refl;
+      scsi = refl;
+      counter = refl;
+      offset = refl;
+      acko = refl;
+      opened = refl;
+      direction = refl;
+      enselo = refl;
+      enseli = refl;
+      enrseli = refl;
+      idle = refl;
+    }
 
 pub inward-comes : allCome runAllows inward inwardRun ≡ true
 unfolding follows inward
@@ -212,7 +267,19 @@ fastRun =
 pub fast-starts : Starts false inwardFast
 unfolding follows inwardFast
 fast-starts =
-    record { host = refl; scsi = refl; counter = refl; offset = refl; acko = refl; opened = refl; direction = refl }
+    record {
+      host = refl;
+      scsi = refl;
+      counter = refl;
+      offset = refl;
+      acko = refl;
+      opened = refl;
+      direction = refl;
+      enselo = refl;
+      enseli = refl;
+      enrseli = refl;
+      idle = refl;
+    }
 
 pub fast-comes : allCome runAllows inwardFast fastRun ≡ true
 unfolding follows inwardFast

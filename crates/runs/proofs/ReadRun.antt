@@ -2,7 +2,7 @@
 use mathlib.Core.Path.{_≡_, refl, sym, _∙_, ap, ap₂}
 use mathlib.Core.Bool.{Bool, true, false, cond}
 use mathlib.Core.List.{List, [], _∷_, _++_, append-assoc, append-nil}
-use Prim.Native.Nat.{ℕ, _+_, _*_, _/_, _%_, _≤_, _<_}
+use Prim.Native.Nat.{ℕ, zero, suc, _+_, _*_, _/_, _%_, _≤_, _<_}
 use native.Mathlib.Omega.{arith}
 use lib.Dec.{eqb}
 use lib.ListN.{length, take, drop, getD, length-take, take-append-drop}
@@ -11,7 +11,7 @@ use Rattle.rules.specs.State.{State, powerReset}
 use Rattle.rules.specs.Records.{decode}
 use Rattle.rules.specs.Map.{table, readAt}
 use Rattle.rules.specs.Reads.{readOf, readMapped, valueRead}
-use Rattle.rules.specs.Events.{asked, portRead}
+use Rattle.rules.specs.Events.{ticksOf, asked, portRead}
 use Rattle.rules.specs.Codes.{noBytes, accessCode, isDone}
 use Rattle.rules.specs.Ranges.{Bytes}
 use Rattle.rules.specs.StepA.{transferA, afterA}
@@ -19,18 +19,18 @@ use Rattle.rules.specs.StepB.{afterB}
 use Rattle.rules.specs.StepC.{conditions, started, turns, settledC}
 use Rattle.rules.specs.StepD.{finished, afterD}
 use Rattle.rules.specs.Answers.{Stepped}
-use Rattle.rules.specs.Step.{ended, refused, done, step, after}
+use Rattle.rules.specs.Step.{ended, refused, done, access, singleTicks, step, after}
 use Rattle.rules.specs.declared.codes.Code.{Code}
 use Rattle.rules.specs.declared.codes.Code.the-variants.{Done}
 use Rattle.rules.specs.declared.records.Event.{Event}
 use Rattle.rules.specs.declared.records.Event.the-variants.{PowerReset, Write, Read, WordWrite, WordRead, Drive, Ticks}
 use Rattle.rules.specs.declared.records.Decoded.{Decoded}
 use Rattle.rules.specs.declared.records.Decoded.the-variants.{Well}
-use Rattle.rules.proofs.Logic.{never}
+use Rattle.rules.proofs.Logic.{never, cond-case}
 use Rattle.rules.proofs.Ranges.{bytes-take}
 use Rattle.runs.specs.Comes.{isRefusal, says, mayCome, allCome, eventBytes, unlessRefused, along}
-use Rattle.runs.specs.Run.{Starts, runAllows, hostRead, lowBytes, tookAtReq, tookByHandshakes, chipTook}
-use Rattle.runs.proofs.Access.{Passed, passed, done-code, step-law, come-law}
+use Rattle.runs.specs.Run.{Starts, runAllows, hostRead, lowBytes, tookAtReq, tookByHandshakes, took, tookInTicks, tookByTicks, tookInEvent, chipTook}
+use Rattle.runs.proofs.Access.{refusal, Passed, passed, done-code, step-law, come-law}
 use Rattle.runs.proofs.Along.{along-law}
 use Rattle.runs.proofs.Settles.{storedBy, Inbound, inbound-settles}
 use Rattle.runs.proofs.Spared.{Spared, spared}
@@ -40,10 +40,6 @@ use Rattle.runs.proofs.Stages.{Held, held-at-start, held-after, asks-no
 pub record ReadMoment (s : State) (tookSoFar readSoFar : List ℕ) : Type 0 where
   pub held : Held false (s .registers)
   pub order : readSoFar ++ (s .transfer .host ++ s .transfer .scsi) ≡ tookSoFar
-
--- what an event puts behind the FIFOs' bytes, inbound
-abbrev pub took : State → Event → List ℕ
-took s e = tookAtReq s e ++ tookByHandshakes s e
 
 handshakes-inbound : (s : State) (e : Event) → (afterB s e) .registers .dmacntrl0 .write ≡ false → tookByHandshakes s e ≡ storedBy (conditions (afterB s e)) ((settledC s e) .acks)
 unfolding tookByHandshakes conditions
@@ -92,20 +88,51 @@ done-moment s e a b p k i =
     regroup : (b x y z t : List ℕ) → (b ++ x) ++ ((y ++ z) ++ t) ≡ (b ++ ((x ++ y) ++ z)) ++ t
     regroup b x y z t = simp append-assoc
 
+-- a tick, refused or done, and ticks one by one
+tick-moment : (s : State) (a b : List ℕ) → ReadMoment s a b → ReadMoment ((access s (Ticks 1)) .state) (a ++ unlessRefused (took s) (Well (Ticks 1)) ((access s (Ticks 1)) .code)) b
+unfolding access ended asked
+tick-moment s a b i =
+    cond-case (λ (r : Stepped). ReadMoment (r .state) (a ++ unlessRefused (took s) (Well (Ticks 1)) (r .code)) b) (isDone (accessCode s (Ticks 1))) _ _
+    (λ q. rw (done-code s (Ticks 1)) (rw (append-nil b) at (done-moment s (Ticks 1) a b (spared (Ticks 1) refl) (passed s (Ticks 1) q) i)))
+    (λ q. rw (refusal s (Ticks 1) q, append-nil a) i)
+
+ticks-moment : (n : ℕ) (s : State) (a b : List ℕ) → ReadMoment s a b → ReadMoment ((singleTicks n s) .state) (a ++ tookInTicks n s) b
+unfolding singleTicks ended tookInTicks
+ticks-moment zero s a b i = rw (append-nil a) i
+ticks-moment (suc n) s a b i =
+    let first = unlessRefused (took s) (Well (Ticks 1)) ((access s (Ticks 1)) .code) in
+    rw (← append-assoc a first (tookInTicks n ((access s (Ticks 1)) .state)))
+    (ticks-moment n ((access s (Ticks 1)) .state) (a ++ first) b (tick-moment s a b i))
+
+-- an event without ticks takes what B and C take of it
+took-once : (s : State) (e : Event) → ticksOf e ≡ 0 → tookInEvent s e ≡ took s e
+unfolding ticksOf tookByTicks
+took-once s PowerReset t = refl
+took-once s (Write offset value) t = refl
+took-once s (Read offset) t = refl
+took-once s (WordWrite word) t = refl
+took-once s WordRead t = refl
+took-once s (Drive lines) t = refl
+took-once s (Ticks n) t = rw t
+
 module _ (s : State) (a b : List ℕ) (i : ReadMoment s a b) where
   abbrev Next : Decoded → Stepped → Type 0
   Next d r =
-      ReadMoment (r .state) (a ++ unlessRefused (took s) d (r .code)) (b ++ unlessRefused (λ e. take (asked e) (s .transfer .host)) d (r .code))
+      ReadMoment (r .state) (a ++ unlessRefused (tookInEvent s) d (r .code)) (b ++ unlessRefused (λ e. take (asked e) (s .transfer .host)) d (r .code))
 
   next-refused : (d : Decoded) (code : Code) (value : ℕ) → isRefusal code ≡ true → Next d (refused s code value)
   unfolding ended
   next-refused d code value q = rw (q, append-nil a, append-nil b) i
 
-  next-done : (e : Event) → runAllows e ≡ true → isDone (accessCode s e) ≡ true → Next (Well e) (done s e)
-  next-done e h q = rw (done-code s e) (done-moment s e a b (spared e h) (passed s e q) i)
+  next-done : (e : Event) → runAllows e ≡ true → ticksOf e ≡ 0 → isDone (accessCode s e) ≡ true → Next (Well e) (done s e)
+  next-done e h t q = rw (done-code s e, took-once s e t) (done-moment s e a b (spared e h) (passed s e q) i)
+
+  next-ticks : (n : ℕ) → Next (Well (Ticks (suc n))) (singleTicks (suc n) s)
+  unfolding singleTicks asked tookByTicks
+  next-ticks n = rw (append-nil b) (ticks-moment (suc n) s a b i)
 
   pub step-moment : (bytes : List ℕ) → mayCome runAllows s bytes ≡ true → ReadMoment ((step s bytes) .state) (a ++ chipTook s bytes) (b ++ hostRead s bytes)
-  step-moment = come-law runAllows refl s Next next-refused next-done
+  step-moment = come-law runAllows refl s Next next-refused next-done next-ticks
 
 start-moment : (s : State) → Starts false s → ReadMoment s [] []
 start-moment s h = record { held = held-at-start false s h; order = rw (h .scsi, h .host) }
@@ -158,13 +185,17 @@ module _ (s : State) where
   port-answer (Drive lines) k h = absurd (never h)
   port-answer (Ticks n) k h = absurd (never h)
 
-  answers-done : (e : Event) → isDone (accessCode s e) ≡ true → Answers (Well e) (done s e)
+  answers-ticks : (n : ℕ) → Answers (Well (Ticks (suc n))) (singleTicks (suc n) s)
+  unfolding portRead
+  answers-ticks n h k = absurd (never h)
+
+  answers-done : (e : Event) → ticksOf e ≡ 0 → isDone (accessCode s e) ≡ true → Answers (Well e) (done s e)
   unfolding done
-  answers-done e q h k = rw k (port-answer e (passed s e q) h)
+  answers-done e t q h k = rw k (port-answer e (passed s e q) h)
 
   -- what a port read that is not refused answers is what the host has read
   pub read-is-answered : (bytes : List ℕ) → says portRead (decode bytes) ≡ true → isRefusal ((step s bytes) .code) ≡ false → (step s bytes) .value ≡ littleEndian (hostRead s bytes)
-  read-is-answered = step-law s Answers answers-refused answers-reset answers-done
+  read-is-answered = step-law s Answers answers-refused answers-reset answers-done answers-ticks
 
 -- so the value's low bytes are what the host has read
 low-of : (x n : ℕ) → x < 256 → (x + 256 * n) % 256 ≡ x
@@ -219,10 +250,14 @@ module _ (s : State) (b : Bytes (s .transfer .host)) where
           ap (λ (v : ℕ). lowBytes (asked e) v) (port-answer s e k h) ∙ rw size at law
       go false h = rw (asks-none e h)
 
-  hands-done : (e : Event) → isDone (accessCode s e) ≡ true → Hands (Well e) (done s e)
+  hands-ticks : (n : ℕ) → Hands (Well (Ticks (suc n))) (singleTicks (suc n) s)
+  unfolding asked
+  hands-ticks n k = refl
+
+  hands-done : (e : Event) → ticksOf e ≡ 0 → isDone (accessCode s e) ≡ true → Hands (Well e) (done s e)
   unfolding done
-  hands-done e q k = hands-event e (passed s e q)
+  hands-done e t q k = hands-event e (passed s e q)
 
   -- the low bytes of the value are the bytes that the host has read
   pub read-hands : (bytes : List ℕ) → isRefusal ((step s bytes) .code) ≡ false → eventBytes (λ e. lowBytes (asked e) ((step s bytes) .value)) (decode bytes) ≡ eventBytes (λ e. take (asked e) (s .transfer .host)) (decode bytes)
-  read-hands = step-law s Hands hands-refused hands-reset hands-done
+  read-hands = step-law s Hands hands-refused hands-reset hands-done hands-ticks

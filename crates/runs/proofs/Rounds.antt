@@ -11,15 +11,17 @@ use Rattle.rules.specs.State.{State}
 use Rattle.rules.specs.Records.{decode}
 use Rattle.rules.specs.Events.{offered}
 use Rattle.rules.specs.Step.{step, after}
+use Rattle.rules.proofs.StayIdle.{SequencerOff}
 use Rattle.runs.specs.Comes.{isRefusal, eventBytes, allCome, along, acksAlong}
 use Rattle.runs.specs.Run.{Starts, runAllows, accepted, sentBy}
-use Rattle.runs.specs.Clearing.{allOff, allClear}
+use Rattle.runs.specs.Clearing.{allOff, allClear, shortClearingOf}
 use Rattle.runs.specs.Rounds.{Offers, Round, recordsOf, afterReading, afterRound, takenIn, numberRead, Proceeds, Follows, Chain, taken, reached, afterRounds, Going, ChainGoing, takenSoFar, AllCleared, allRecords}
 use Rattle.runs.proofs.Along.{after-append, along-append, earlier-comes}
+use Rattle.runs.proofs.StaysIdle.{run-stays-idle}
 use Rattle.runs.proofs.Clearing.{clearing-sends-nothing, Silent, off-by, no-ack-until-empty}
-use Rattle.runs.proofs.Sequence.{ClearingWorks, clearing-works}
+use Rattle.runs.proofs.Sequence.{Works, ClearingWorks, clearing-works, short-clearing-works}
 use Rattle.runs.proofs.WriteRun.{write-run}
-use Rattle.runs.proofs.Cut.{cut-and-read, front}
+use Rattle.runs.proofs.Cut.{cut-and-read, front, still-a-run}
 
 -- what the port accepts of an offer in order is the front of the data
 accepted-front : (rest : List ℕ) (s : State) (bytes : List ℕ) → take (length (eventBytes offered (decode bytes))) rest ≡ eventBytes offered (decode bytes) → accepted s bytes ≡ take (length (accepted s bytes)) rest
@@ -134,6 +136,15 @@ cut-to-empty s r p records h =
 -- after a cut the concrete clearing is always there
 pub clearing-after-cut : (s : State) (r : Round) → Proceeds s r → (eightbit : Bool) → ClearingWorks (afterReading s r) eightbit
 clearing-after-cut s r p eightbit = clearing-works (afterReading s r) eightbit (cut-and-read s r p .moment .room)
+
+-- the run leaves the sequencer off, so that the clearing without a pulse on RST is there too
+pub idle-after-cut : (s : State) (r : Round) → Proceeds s r → SequencerOff (afterReading s r)
+idle-after-cut s r p =
+    rw (after-append s (r .run) (r .cut ∷ r .reading)) at (run-stays-idle true s (recordsOf r) (p .start) (still-a-run s r p))
+
+pub short-clearing-after-cut : (s : State) (r : Round) → Proceeds s r → (eightbit : Bool) → Works (afterReading s r) (shortClearingOf eightbit)
+short-clearing-after-cut s r p eightbit =
+    short-clearing-works (afterReading s r) eightbit (cut-and-read s r p .moment .room) (idle-after-cut s r p)
 
 -- AT THE BOUND: a round of 16,777,216 bytes reads 0, and the driver would begin again with the bytes that the target has taken
 pub at-the-bound : (s : State) (r : Round) → Proceeds s r → length (takenIn s r) ≡ 16777216 → numberRead s r ≡ 0

@@ -1,7 +1,7 @@
 -- The concrete clearing reaches the start of a run, whatever the lines are.
 use mathlib.Core.Path.{_≡_, refl, sym, ap, _∙_}
 use mathlib.Core.Bool.{Bool, true, false, and-false, or-true}
-use mathlib.Core.List.{List, [], append-nil}
+use mathlib.Core.List.{List, [], _∷_, append-nil}
 use Prim.Native.Nat.{ℕ, _+_, _≤_}
 use native.Mathlib.Omega.{arith}
 use lib.ListN.{length}
@@ -9,28 +9,31 @@ use borrow.Author.Tests.{le-ltb}
 use Rattle.rules.specs.Numbers.{bit}
 use Rattle.rules.specs.Map.{offsetOf, table, writtenAt}
 use Rattle.rules.specs.State.{State}
-use Rattle.rules.specs.Seen.{normal, path}
+use Rattle.rules.specs.Seen.{rstSeen, normal, path}
 use Rattle.rules.specs.Records.{decode, fieldsOf, wellFormed}
 use Rattle.rules.specs.Events.{writes, reads, valueOf, offered, asked, portWrite, portRead, linesAfter}
 use Rattle.rules.specs.Codes.{absent, testValue, shut, noRoom, noBytes, accessCode}
 use Rattle.rules.specs.StepA.{clrstcnt, clrch, rstfifo, latchAccess, automaticAck, registersA, hostA, counterA, transferA, afterA}
-use Rattle.rules.specs.StepB.{ackReleased, busReset, reqRises, beyond, afterReqRises, busFreed, phaseChanged, atReq, afterB}
+use Rattle.rules.specs.StepB.{ackReleased, busReset, reqRises, beyond, afterReqRises, busFreed, afterSequencer, phaseChanged, atReq, afterB}
 use Rattle.rules.specs.StepC.{conditions, started, turns, settledC}
 use Rattle.rules.specs.StepD.{finished, afterD}
 use Rattle.rules.specs.Step.{done, access, stepEvent, stepDecoded, step, after}
 use Rattle.rules.specs.declared.registers.Registers.{Registers}
+use Rattle.rules.specs.declared.chip.Phase.the-variants.{Idle}
 use Rattle.rules.specs.declared.codes.Code.the-variants.{Done}
 use Rattle.rules.specs.declared.map.Register.{Register}
-use Rattle.rules.specs.declared.map.Register.the-variants.{SXFRCTL0, SCSISIGO, DMACNTRL0}
+use Rattle.rules.specs.declared.map.Register.the-variants.{SCSISEQ, SXFRCTL0, SCSISIGO, DMACNTRL0}
 use Rattle.rules.specs.declared.records.Event.{Event}
 use Rattle.rules.specs.declared.records.Event.the-variants.{Write}
 use Rattle.rules.specs.declared.records.Decoded.the-variants.{Well}
 use Rattle.rules.proofs.InOrder.{Spares, before-req, after-req, Apart, b-leaves, scsien-stays, acko-stays, ioexp-stays}
 use Rattle.rules.proofs.Refusals.{no-rise, not-beyond}
+use Rattle.rules.proofs.StayIdle.{SequencerOff, idle-stays, idle-cleared, reset-idles}
 use Rattle.runs.specs.Run.{Starts, accepted, tookAtReq}
-use Rattle.runs.specs.Clearing.{switchedOff, bothEmpty, mayClear, allClear, allDone, writeRecord, manualValue, controlValue, clearValue, signalValue, openValue, clearingOf}
+use Rattle.runs.specs.Clearing.{switchedOff, bothEmpty, mayClear, allClear, allDone, writeRecord, manualValue, resetValue, idleValue, controlValue, clearValue, signalValue, openValue, fromManual, clearingOf, shortClearingOf}
 use Rattle.runs.proofs.Stages.{write-A, host-B, scsi-B}
-use Rattle.runs.proofs.Settles.{settle-still, no-path-no-move, disabled-no-handshake, empty-no-move, empty-no-handshake}
+use Rattle.runs.proofs.Settles.{settle-still, no-path-no-move, disabled-no-handshake}
+use Rattle.runs.proofs.Clearing.{empty-settles}
 
 -- a register write brings no edge of REQ
 module _ (s : State) (offset value : ℕ) where
@@ -83,13 +86,6 @@ manual-settles s e m =
     settle-still (conditions (afterB s e)) (started (afterB s e)) (no-path-no-move (conditions (afterB s e)) ((afterB s e) .transfer) p)
     (disabled-no-handshake (conditions (afterB s e)) ((afterB s e) .transfer) (no-path-disables (afterB s e) p)) turns
 
--- outbound with both FIFOs empty it changes nothing either
-empty-settles : (s : State) (e : Event) → (afterB s e) .registers .dmacntrl0 .write ≡ true → (afterB s e) .transfer .host ≡ [] → (afterB s e) .transfer .scsi ≡ [] → settledC s e ≡ started (afterB s e)
-unfolding settledC conditions started
-empty-settles s e w h k =
-    settle-still (conditions (afterB s e)) (started (afterB s e)) (empty-no-move (conditions (afterB s e)) ((afterB s e) .transfer) w h)
-    (empty-no-handshake (conditions (afterB s e)) ((afterB s e) .transfer) w k) turns
-
 -- the write of a register that is there, with room in the host FIFO: it is done
 pub record Plain (r : Register) (value : ℕ) : Type 0 where
   pub decoded : decode (writeRecord r value) ≡ Well (Write (offsetOf r) value)
@@ -125,6 +121,14 @@ module _ (s : State) (r : Register) (value : ℕ) (p : Plain r value) (room : le
   pub write-answers : (step s (writeRecord r value)) .code ≡ Done
   write-answers = rw write-steps done-code-0
 
+  write-leaves : (step s (writeRecord r value)) .state ≡ afterD s written
+  unfolding done
+  write-leaves = rw write-steps
+
+  -- a sequencer that is off stays so, but for a write to 340h
+  still-off : writes written SCSISEQ ≡ false → SequencerOff s → SequencerOff ((step s (writeRecord r value)) .state)
+  still-off w o = rw write-leaves (idle-stays s written w o)
+
   -- where settling changes nothing, the write leaves what B leaves
   module _ (rest : settledC s written ≡ started (afterB s written)) where
     after-registers : (step s (writeRecord r value)) .state .registers ≡ (afterB s written) .registers
@@ -135,10 +139,18 @@ module _ (s : State) (r : Register) (value : ℕ) (p : Plain r value) (room : le
     unfolding done afterD finished started
     after-transfer = rw (write-steps, rest)
 
--- the five writes are plain
+-- the writes are plain
 plain-manual : Plain SXFRCTL0 manualValue
 unfolding decode fieldsOf wellFormed absent writtenAt table testValue writes shut portWrite portRead offered
 plain-manual = record { decoded = refl; present = refl; untested = refl; portless = λ x. refl; offers = refl }
+
+plain-reset : Plain SCSISEQ resetValue
+unfolding decode fieldsOf wellFormed absent writtenAt table testValue writes shut portWrite portRead offered
+plain-reset = record { decoded = refl; present = refl; untested = refl; portless = λ x. refl; offers = refl }
+
+plain-idle : Plain SCSISEQ idleValue
+unfolding decode fieldsOf wellFormed absent writtenAt table testValue writes shut portWrite portRead offered
+plain-idle = record { decoded = refl; present = refl; untested = refl; portless = λ x. refl; offers = refl }
 
 plain-control : (eightbit : Bool) → Plain DMACNTRL0 (controlValue eightbit)
 unfolding decode fieldsOf wellFormed absent writtenAt table testValue writes shut portWrite portRead offered
@@ -179,6 +191,36 @@ module _ (s : State) (room : length (s .transfer .host) ≤ 128) where
         room = rw (after-transfer s SXFRCTL0 manualValue plain-manual room rest, manual-host) room;
         mode = rw (after-registers s SXFRCTL0 manualValue plain-manual room rest) mode;
       }
+
+-- 340h: Manual mode and the host FIFO as they were
+module _ (s : State) (m : Manual s) (value : ℕ) (p : Plain SCSISEQ value) where
+  sequence-A : ManualMode ((afterA s (Write 0x00 value)) .registers)
+  unfolding afterA registersA writes valueOf
+  sequence-A = record { scsien = m .mode .scsien; dmaen = m .mode .dmaen; spioen = m .mode .spioen }
+
+  sequence-host : (afterB s (Write 0x00 value)) .transfer .host ≡ s .transfer .host
+  unfolding afterA transferA hostA rstfifo writes portWrite asked
+  sequence-host = host-B s (Write 0x00 value)
+
+  after-sequence : Manual ((step s (writeRecord SCSISEQ value)) .state)
+  after-sequence =
+      let mode = mode-B s (Write 0x00 value) sequence-A in
+      let rest = manual-settles s (Write 0x00 value) mode in
+      record {
+        room = rw (after-transfer s SCSISEQ value p (m .room) rest, sequence-host) (m .room);
+        mode = rw (after-registers s SCSISEQ value p (m .room) rest) mode;
+      }
+
+-- with SCSIRSTO: the sequencer is idle, whatever it was
+after-reset : (s : State) → Manual s → (step s (writeRecord SCSISEQ resetValue)) .state .sequencer .phase ≡ Idle
+unfolding afterA registersA linesAfter rstSeen writes valueOf
+after-reset s m =
+    rw (write-leaves s SCSISEQ resetValue plain-reset (m .room)) (reset-idles s (Write 0x00 resetValue) (or-true (s .lines .rst)))
+
+-- and then with 0: off
+after-idle : (s : State) → Manual s → s .sequencer .phase ≡ Idle → SequencerOff ((step s (writeRecord SCSISEQ idleValue)) .state)
+unfolding writes valueOf
+after-idle s m i = rw (write-leaves s SCSISEQ idleValue plain-idle (m .room)) (idle-cleared s (Write 0x00 idleValue) refl refl i)
 
 -- 352h with RSTFIFO and WRITE
 record Emptied (s : State) : Type 0 where
@@ -232,13 +274,14 @@ abbrev At0 : State → Type 0
 At0 n = n .transfer .offset ≡ 0
 
 at0 : Spares At0
-unfolding ackReleased busReset busFreed phaseChanged
+unfolding ackReleased busReset busFreed afterSequencer phaseChanged
 at0 =
     record {
       released = λ n h. h;
       reset = λ n h. refl;
       ticked = λ n ticks h. h;
       freed = λ n h. refl;
+      sequenced = λ n tick before h. h;
       changed = λ n h. h;
     }
 
@@ -339,7 +382,7 @@ unfolding path normal
 outward-path r w d p i = rw (w, d, p, i)
 
 -- 341h with SCSIEN, DMAEN, CHEN: the path opens on empty FIFOs
-module _ (s : State) (m : Ready s) where
+module _ (s : State) (m : Ready s) (o : SequencerOff s) where
   open-room : length (s .transfer .host) ≤ 128
   open-room = rw (m .zeroed .host) (omega arith)
 
@@ -362,7 +405,9 @@ module _ (s : State) (m : Ready s) where
   open-B = (host-B s (Write 0x01 openValue) ∙ m .zeroed .host, counter-B s (Write 0x01 openValue) ∙ m .zeroed .counter)
 
   after-open : Starts true ((step s (writeRecord SXFRCTL0 openValue)) .state)
+  unfolding writes
   after-open =
+      let off = still-off s SXFRCTL0 openValue plain-open open-room refl o in
       let scsi = scsi-kept s 0x01 openValue ∙ open-A .0 in
       let rest = empty-settles s (Write 0x01 openValue) (open-registers .0) (open-B .0) scsi in
       let transfer = after-transfer s SXFRCTL0 openValue plain-open open-room rest in
@@ -378,6 +423,10 @@ module _ (s : State) (m : Ready s) where
             (outward-path ((afterB s (Write 0x01 openValue)) .registers) (open-registers .0) (open-registers .1) (open-registers .2)
             (ioexp-stays s (Write 0x01 openValue) (open-signals .0)));
         direction = rw registers (open-registers .0);
+        enselo = off .enselo;
+        enseli = off .enseli;
+        enrseli = off .enrseli;
+        idle = off .idle;
       }
 
 -- Manual mode with SCSIEN 0 is within the paper's condition
@@ -391,35 +440,64 @@ unfolding bothEmpty
 ready-empty s m = rw (m .zeroed .host, m .zeroed .scsi)
 
 open-takes-none : (s : State) → Ready s → accepted s (writeRecord SXFRCTL0 openValue) ≡ []
-open-takes-none s m = rw (write-answers s SXFRCTL0 openValue plain-open (open-room s m), plain-open .decoded) (plain-open .offers)
+open-takes-none s m = rw (write-answers s SXFRCTL0 openValue plain-open (rw (m .zeroed .host) (omega arith)), plain-open .decoded) (plain-open .offers)
 
 open-clears : (s : State) → Ready s → mayClear s (writeRecord SXFRCTL0 openValue) ≡ true
 unfolding mayClear
 open-clears s m =
     rw (ready-empty s m, open-takes-none s m) (or-true (switchedOff ((step s (writeRecord SXFRCTL0 openValue)) .state)))
 
-pub record ClearingWorks (s : State) (eightbit : Bool) : Type 0 where
-  pub starts : Starts true (after s (clearingOf eightbit))
-  pub allowed : allClear s (clearingOf eightbit) ≡ true
-  pub answered : allDone s (clearingOf eightbit) ≡ true
+-- records that end at a start, keep the paper's condition, and get code 0 each
+pub record Works (s : State) (records : List (List ℕ)) : Type 0 where
+  pub starts : Starts true (after s records)
+  pub allowed : allClear s records ≡ true
+  pub answered : allDone s records ≡ true
+
+works-after : (s : State) (bytes : List ℕ) (more : List (List ℕ)) → mayClear s bytes ≡ true → (step s bytes) .code ≡ Done → Works ((step s bytes) .state) more → Works s (bytes ∷ more)
+works-after s bytes more a c w = record { starts = w .starts; allowed = rw a (w .allowed); answered = rw c (w .answered) }
+
+-- from Manual mode with the sequencer off
+from-manual : (s : State) (eightbit : Bool) → Manual s → SequencerOff s → Works s (fromManual eightbit)
+unfolding fromManual writes
+from-manual s eightbit m o =
+    let s1 : State = (step s (writeRecord DMACNTRL0 (controlValue eightbit))) .state in
+    let s2 : State = (step s1 (writeRecord SXFRCTL0 clearValue)) .state in
+    let s3 : State = (step s2 (writeRecord SCSISIGO signalValue)) .state in
+    let b = after-emptied s m eightbit in
+    let c = after-zeroed s1 b in
+    let d = after-ready s2 c in
+    let p = still-off s DMACNTRL0 (controlValue eightbit) (plain-control eightbit) (m .room) refl o in
+    let q = still-off s1 SXFRCTL0 clearValue plain-clear (zeroed-room s1 b) refl p in
+    let r = still-off s2 SCSISIGO signalValue plain-signals (ready-room s2 c) refl q in
+    works-after s (writeRecord DMACNTRL0 (controlValue eightbit)) _ (mode-clears s _ (b .mode)) (write-answers s DMACNTRL0 (controlValue eightbit) (plain-control eightbit) (m .room))
+    (works-after s1 (writeRecord SXFRCTL0 clearValue) _ (mode-clears s1 _ (c .mode)) (write-answers s1 SXFRCTL0 clearValue plain-clear (zeroed-room s1 b))
+    (works-after s2 (writeRecord SCSISIGO signalValue) _ (mode-clears s2 _ (d .zeroed .mode)) (write-answers s2 SCSISIGO signalValue plain-signals (ready-room s2 c))
+    (works-after s3 (writeRecord SXFRCTL0 openValue) _ (open-clears s3 d) (write-answers s3 SXFRCTL0 openValue plain-open (open-room s3 d r))
+    (record { starts = after-open s3 d r; allowed = refl; answered = refl }))))
+
+abbrev pub ClearingWorks : State → Bool → Type 0
+ClearingWorks s eightbit = Works s (clearingOf eightbit)
 
 -- THE CLEARING THAT A DRIVER CAN USE: it reaches the start of a write run from every state whose host FIFO holds at most 128 bytes,
--- whatever the lines are; it keeps the paper's condition, and each of its records gets code 0
+-- whatever the lines are and the sequencer does; it keeps the paper's condition, and each of its records gets code 0
 pub clearing-works : (s : State) (eightbit : Bool) → length (s .transfer .host) ≤ 128 → ClearingWorks s eightbit
 unfolding clearingOf
 clearing-works s eightbit room =
     let s1 : State = (step s (writeRecord SXFRCTL0 manualValue)) .state in
-    let s2 : State = (step s1 (writeRecord DMACNTRL0 (controlValue eightbit))) .state in
-    let s3 : State = (step s2 (writeRecord SXFRCTL0 clearValue)) .state in
-    let s4 : State = (step s3 (writeRecord SCSISIGO signalValue)) .state in
+    let s2 : State = (step s1 (writeRecord SCSISEQ resetValue)) .state in
+    let s3 : State = (step s2 (writeRecord SCSISEQ idleValue)) .state in
     let a = after-manual s room in
-    let b = after-emptied s1 a eightbit in
-    let c = after-zeroed s2 b in
-    let d = after-ready s3 c in
-    record {
-      starts = after-open s4 d;
-      allowed =
-          rw (mode-clears s _ (a .mode), mode-clears s1 _ (b .mode), mode-clears s2 _ (c .mode), mode-clears s3 _ (d .zeroed .mode), open-clears s4 d);
-      answered =
-          rw (write-answers s SXFRCTL0 manualValue plain-manual room, write-answers s1 DMACNTRL0 (controlValue eightbit) (plain-control eightbit) (a .room), write-answers s2 SXFRCTL0 clearValue plain-clear (zeroed-room s2 b), write-answers s3 SCSISIGO signalValue plain-signals (ready-room s3 c), write-answers s4 SXFRCTL0 openValue plain-open (open-room s4 d));
-    }
+    let b = after-sequence s1 a resetValue plain-reset in
+    let c = after-sequence s2 b idleValue plain-idle in
+    works-after s (writeRecord SXFRCTL0 manualValue) _ (mode-clears s _ (a .mode)) (write-answers s SXFRCTL0 manualValue plain-manual room)
+    (works-after s1 (writeRecord SCSISEQ resetValue) _ (mode-clears s1 _ (b .mode)) (write-answers s1 SCSISEQ resetValue plain-reset (a .room))
+    (works-after s2 (writeRecord SCSISEQ idleValue) _ (mode-clears s2 _ (c .mode)) (write-answers s2 SCSISEQ idleValue plain-idle (b .room))
+    (from-manual s3 eightbit c (after-idle s2 b (after-reset s1 a)))))
+
+-- where the sequencer is off, as a run leaves it, the clearing without a pulse on RST reaches one too
+pub short-clearing-works : (s : State) (eightbit : Bool) → length (s .transfer .host) ≤ 128 → SequencerOff s → Works s (shortClearingOf eightbit)
+unfolding shortClearingOf writes
+short-clearing-works s eightbit room o =
+    let a = after-manual s room in
+    works-after s (writeRecord SXFRCTL0 manualValue) _ (mode-clears s _ (a .mode)) (write-answers s SXFRCTL0 manualValue plain-manual room)
+    (from-manual ((step s (writeRecord SXFRCTL0 manualValue)) .state) eightbit a (still-off s SXFRCTL0 manualValue plain-manual room refl o))

@@ -9,7 +9,7 @@ use Rattle.rules.specs.Map.{offsetOf}
 use Rattle.rules.specs.Events.{writes, valueOf}
 use Rattle.rules.specs.StepA.{clrstcnt, clrch}
 use Rattle.rules.specs.declared.map.Register.{Register}
-use Rattle.rules.specs.declared.map.Register.the-variants.{SXFRCTL0, SCSISIGO, STCNT0, STCNT1, STCNT2, DMACNTRL0}
+use Rattle.rules.specs.declared.map.Register.the-variants.{SCSISEQ, SXFRCTL0, SCSISIGO, STCNT0, STCNT1, STCNT2, DMACNTRL0}
 use Rattle.rules.specs.declared.records.Event.{Event}
 use Rattle.rules.specs.declared.records.Event.the-variants.{PowerReset, Write, Read, WordWrite, WordRead, Drive, Ticks}
 use Rattle.rules.proofs.Logic.{never, left-true, right-true}
@@ -56,6 +56,7 @@ allowed-bits value h = bits341 value h
 
 -- what an allowed event spares
 pub record Spared (e : Event) : Type 0 where
+  pub sequence : writes e SCSISEQ ≡ false
   pub signals : writes e SCSISIGO ≡ false
   pub low : writes e STCNT0 ≡ false
   pub middle : writes e STCNT1 ≡ false
@@ -84,6 +85,7 @@ pub spared : (e : Event) → runAllows e ≡ true → Spared e
 unfolding writeAllowed clrstcnt clrch
 spared e h =
     record {
+      sequence = not-written SCSISEQ (λ v. refl) e h;
       signals = not-written SCSISIGO (λ v. refl) e h;
       low = not-written STCNT0 (λ v. refl) e h;
       middle = not-written STCNT1 (λ v. refl) e h;

@@ -12,7 +12,7 @@ use Rattle.rules.specs.Seen.{ioSeen, automatic, normal, matched, path}
 use Rattle.rules.specs.Events.{writes, valueOf, offered, asked, wide, portWrite, portRead}
 use Rattle.rules.specs.Codes.{shut, noRoom}
 use Rattle.rules.specs.StepA.{clrstcnt, clrch, rstfifo, automaticAck, registersA, hostA, counterA, transferA, afterA}
-use Rattle.rules.specs.StepB.{ackReleased, busReset, reqRises, synchronousReq, reqWithin, storedByte, reqRisen, busFreed, phaseChanged, atReq, afterB}
+use Rattle.rules.specs.StepB.{ackReleased, busReset, reqRises, synchronousReq, reqWithin, storedByte, reqRisen, busFreed, afterSequencer, phaseChanged, atReq, afterB}
 use Rattle.rules.specs.declared.registers.Registers.{Registers}
 use Rattle.rules.specs.declared.registers.Sxfrctl0.{Sxfrctl0}
 use Rattle.rules.specs.declared.map.Register.the-variants.{SXFRCTL0}
@@ -57,7 +57,7 @@ held-A w r e s h =
     }
 
 held-B : (w : Bool) → Keeps (λ n. Held w (n .registers))
-unfolding ackReleased busReset reqRisen busFreed phaseChanged
+unfolding ackReleased busReset reqRisen busFreed afterSequencer phaseChanged
 held-B w =
     record {
       released = λ n h. h;
@@ -65,6 +65,7 @@ held-B w =
       risen = λ n h. record { direction = h .direction; spioen = h .spioen; acko = h .acko };
       ticked = λ n ticks h. h;
       freed = λ n h. record { direction = h .direction; spioen = h .spioen; acko = refl };
+      sequenced = λ n tick before h. record { direction = h .direction; spioen = h .spioen; acko = h .acko };
       changed = λ n h. h;
     }
 

@@ -7,16 +7,18 @@ use lib.Dec.{eqb, leb, ltb}
 use lib.ListN.{length, take, drop}
 use borrow.Author.Tests.{eqb-true, leb-true, ltb-true, not-true}
 use Rattle.rules.specs.State.{State}
-use Rattle.rules.specs.Seen.{path}
+use Rattle.rules.specs.Seen.{isPhase, path}
 use Rattle.rules.specs.Records.{decode}
 use Rattle.rules.specs.Events.{offered}
 use Rattle.rules.specs.Codes.{isDone}
 use Rattle.rules.specs.Examples.{same}
 use Rattle.rules.specs.Step.{step, after}
+use Rattle.rules.specs.declared.chip.Phase.the-variants.{Idle}
 use Rattle.rules.specs.declared.codes.Code.{Code}
 use Rattle.rules.specs.declared.codes.Code.the-variants.{Done, Malformed, Absent, Shut, NoRoom, NoBytes, BeyondLimit, TestValue}
 use Rattle.rules.specs.declared.map.Register.the-variants.{STCNT0, STCNT1, STCNT2}
 use Rattle.rules.proofs.Logic.{never, left-true, right-true}
+use Rattle.rules.proofs.StayIdle.{SequencerOff, is-idle}
 use Rattle.runs.specs.Comes.{says, allCome, eventBytes}
 use Rattle.runs.specs.Run.{Starts, runAllows, accepted}
 use Rattle.runs.specs.Cut.{isCut, calm, readAnswers}
@@ -42,10 +44,28 @@ done-eq NoBytes h = absurd (never h)
 done-eq BeyondLimit h = absurd (never h)
 done-eq TestValue h = absurd (never h)
 
+-- 340h bits 6-4 clear and the sequencer idle
+abbrev pub offTest : State → Bool
+offTest s =
+    let q = s .registers .scsiseq in
+    not (q .enselo) && (not (q .enseli) && (not (q .enrseli) && isPhase Idle (s .sequencer .phase)))
+
+off-by-test : (s : State) → offTest s ≡ true → SequencerOff s
+off-by-test s h =
+    let q = s .registers .scsiseq in
+    let h1 = right-true (not (q .enselo)) _ h in
+    let h2 = right-true (not (q .enseli)) _ h1 in
+    record {
+      enselo = not-true (q .enselo) (left-true (not (q .enselo)) _ h);
+      enseli = not-true (q .enseli) (left-true (not (q .enseli)) _ h1);
+      enrseli = not-true (q .enrseli) (left-true (not (q .enrseli)) _ h2);
+      idle = is-idle (s .sequencer .phase) (right-true (not (q .enrseli)) _ h2);
+    }
+
 abbrev pub startsTest : State → Bool
 startsTest s =
     same (s .transfer .host) [] && (same (s .transfer .scsi) [] && (eqb (s .transfer .counter) 0 && (eqb (s .transfer .offset) 0
-    && (not (s .registers .scsisig .acko) && (path (s .registers) && s .registers .dmacntrl0 .write)))))
+    && (not (s .registers .scsisig .acko) && (path (s .registers) && (s .registers .dmacntrl0 .write && offTest s))))))
 
 starts-by-test : (s : State) → startsTest s ≡ true → Starts true s
 starts-by-test s h =
@@ -54,6 +74,8 @@ starts-by-test s h =
     let h3 = right-true (eqb (s .transfer .counter) 0) _ h2 in
     let h4 = right-true (eqb (s .transfer .offset) 0) _ h3 in
     let h5 = right-true (not (s .registers .scsisig .acko)) _ h4 in
+    let h6 = right-true (path (s .registers)) _ h5 in
+    let off = off-by-test s (right-true (s .registers .dmacntrl0 .write) _ h6) in
     record {
       host = same-eq (s .transfer .host) [] (left-true (same (s .transfer .host) []) _ h);
       scsi = same-eq (s .transfer .scsi) [] (left-true (same (s .transfer .scsi) []) _ h1);
@@ -61,7 +83,11 @@ starts-by-test s h =
       offset = eqb-true (s .transfer .offset) 0 (left-true (eqb (s .transfer .offset) 0) _ h3);
       acko = not-true (s .registers .scsisig .acko) (left-true (not (s .registers .scsisig .acko)) _ h4);
       opened = left-true (path (s .registers)) _ h5;
-      direction = right-true (path (s .registers)) _ h5;
+      direction = left-true (s .registers .dmacntrl0 .write) _ h6;
+      enselo = off .enselo;
+      enseli = off .enseli;
+      enrseli = off .enrseli;
+      idle = off .idle;
     }
 
 abbrev pub offersTest : List ℕ → State → List (List ℕ) → Bool

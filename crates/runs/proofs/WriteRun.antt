@@ -3,25 +3,26 @@
 use mathlib.Core.Path.{_≡_, refl, sym, _∙_, ap}
 use mathlib.Core.Bool.{true}
 use mathlib.Core.List.{List, [], _++_, append-assoc, append-nil}
-use Prim.Native.Nat.{ℕ, _%_, _≤_}
+use Prim.Native.Nat.{ℕ, suc, _%_, _≤_}
 use native.Mathlib.Nat.{add-zero}
 use native.Mathlib.Omega.{arith}
 use lib.ListN.{length, length-append}
 use Rattle.rules.specs.State.{State}
-use Rattle.rules.specs.Events.{offered}
+use Rattle.rules.specs.Events.{offered, ticksOf}
 use Rattle.rules.specs.Codes.{accessCode, isDone}
 use Rattle.rules.specs.StepB.{afterB}
 use Rattle.rules.specs.StepC.{conditions, started, turns, settledC}
 use Rattle.rules.specs.StepD.{finished, afterD}
 use Rattle.rules.specs.Answers.{Stepped}
-use Rattle.rules.specs.Step.{ended, refused, done, step, after}
+use Rattle.rules.specs.Step.{ended, refused, done, singleTicks, step, after}
 use Rattle.rules.specs.declared.codes.Code.{Code}
 use Rattle.rules.specs.declared.records.Event.{Event}
+use Rattle.rules.specs.declared.records.Event.the-variants.{Ticks}
 use Rattle.rules.specs.declared.records.Decoded.{Decoded}
 use Rattle.rules.specs.declared.records.Decoded.the-variants.{Well}
 use Rattle.runs.specs.Comes.{isRefusal, mayCome, allCome, unlessRefused, along}
 use Rattle.runs.specs.Run.{Starts, runAllows, accepted, sentBy}
-use Rattle.runs.proofs.Access.{Passed, passed, done-code, come-law}
+use Rattle.runs.proofs.Access.{Passed, passed, done-code, ticks-law, come-law}
 use Rattle.runs.proofs.Along.{along-law}
 use Rattle.runs.proofs.Settles.{Outbound, outbound-settles}
 use Rattle.runs.proofs.Spared.{Spared, spared}
@@ -67,6 +68,17 @@ done-moment s e a b p k i =
       room = r .room;
     }
 
+-- ticks one by one offer nothing, and send what each of them sends
+abbrev Ticking : State → Stepped → Type 0
+Ticking s r = (a b : List ℕ) → WriteMoment s a b → WriteMoment (r .state) a (b ++ r .sent)
+
+ticks-moment : (n : ℕ) (s : State) → Ticking s (singleTicks n s)
+unfolding ended offered
+ticks-moment =
+    ticks-law Ticking (λ s code value a b i. rw (append-nil b) i)
+    (λ s q a b i. rw (append-nil a) at (done-moment s (Ticks 1) a b (spared (Ticks 1) refl) (passed s (Ticks 1) q) i))
+    (λ s first rest f g a b i. rw (← append-assoc b (first .sent) (rest .sent)) (g a (b ++ first .sent) (f a b i)))
+
 module _ (s : State) (a b : List ℕ) (i : WriteMoment s a b) where
   abbrev Next : Decoded → Stepped → Type 0
   Next d r = WriteMoment (r .state) (a ++ unlessRefused offered d (r .code)) (b ++ r .sent)
@@ -75,11 +87,15 @@ module _ (s : State) (a b : List ℕ) (i : WriteMoment s a b) where
   unfolding ended
   next-refused d code value q = rw (q, append-nil a, append-nil b) i
 
-  next-done : (e : Event) → runAllows e ≡ true → isDone (accessCode s e) ≡ true → Next (Well e) (done s e)
-  next-done e h q = rw (done-code s e) (done-moment s e a b (spared e h) (passed s e q) i)
+  next-done : (e : Event) → runAllows e ≡ true → ticksOf e ≡ 0 → isDone (accessCode s e) ≡ true → Next (Well e) (done s e)
+  next-done e h t q = rw (done-code s e) (done-moment s e a b (spared e h) (passed s e q) i)
+
+  next-ticks : (n : ℕ) → Next (Well (Ticks (suc n))) (singleTicks (suc n) s)
+  unfolding singleTicks offered
+  next-ticks n = rw (append-nil a) (ticks-moment (suc n) s a b i)
 
   pub step-moment : (bytes : List ℕ) → mayCome runAllows s bytes ≡ true → WriteMoment ((step s bytes) .state) (a ++ accepted s bytes) (b ++ sentBy s bytes)
-  step-moment = come-law runAllows refl s Next next-refused next-done
+  step-moment = come-law runAllows refl s Next next-refused next-done next-ticks
 
 start-moment : (s : State) → Starts true s → WriteMoment s [] []
 start-moment s h =

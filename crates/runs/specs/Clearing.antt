@@ -11,7 +11,7 @@ use Rattle.rules.specs.Events.{writes, valueOf}
 use Rattle.rules.specs.Codes.{isDone}
 use Rattle.rules.specs.Step.{step}
 use Rattle.rules.specs.declared.map.Register.{Register}
-use Rattle.rules.specs.declared.map.Register.the-variants.{SXFRCTL0, SCSISIGO, DMACNTRL0}
+use Rattle.rules.specs.declared.map.Register.the-variants.{SCSISEQ, SXFRCTL0, SCSISIGO, DMACNTRL0}
 use Rattle.rules.specs.declared.records.Event.{Event}
 use Rattle.rules.specs.declared.records.Event.the-variants.{PowerReset, Write, Read, WordWrite, WordRead, Drive, Ticks}
 use Rattle.runs.specs.Comes.{mayCome}
@@ -65,6 +65,14 @@ writeRecord r value = (32 + offsetOf r) ∷ 0 ∷ 0 ∷ value ∷ []
 abbrev pub manualValue : ℕ
 manualValue = 0x00
 
+-- SCSIRSTO: RST is driven, and the sequencer is idle at once, whatever it did
+abbrev pub resetValue : ℕ
+resetValue = 0x01
+
+-- RST released, and bits 6-4 clear: an idle sequencer is neither asked nor called, and stays idle
+abbrev pub idleValue : ℕ
+idleValue = 0x00
+
 -- RSTFIFO, with ENDMA, WRITE 1 and the port's width
 abbrev pub controlValue : Bool → ℕ
 controlValue eightbit = cond eightbit 0xCA 0x8A
@@ -81,12 +89,26 @@ signalValue = 0x00
 abbrev pub openValue : ℕ
 openValue = 0xE0
 
--- a clearing that a driver can use: "empties both FIFOs, zeroes counter and offset, and writes 343h with ACKO 0 ... and starts anew"
-unfoldable pub clearingOf : Bool → List (List ℕ)
-clearingOf eightbit =
-    writeRecord SXFRCTL0 manualValue
-    ∷ writeRecord DMACNTRL0 (controlValue eightbit)
+-- "empties both FIFOs, zeroes counter and offset, and writes 343h with ACKO 0 ... and starts anew", in Manual mode
+unfoldable pub fromManual : Bool → List (List ℕ)
+fromManual eightbit =
+    writeRecord DMACNTRL0 (controlValue eightbit)
     ∷ writeRecord SXFRCTL0 clearValue
     ∷ writeRecord SCSISIGO signalValue
     ∷ writeRecord SXFRCTL0 openValue
     ∷ []
+
+-- A CLEARING THAT A DRIVER CAN USE, KNOWN BY ITS RECORDS: it ends at a start from every chip. R-1 wants there "340h bits 6-4 clear and
+-- the sequencer idle", so it has a pulse on RST; nothing less does it whatever others drive. A chip that has answered a reselection lets
+-- go only when others release SEL, and a selection on a free bus goes on, ENSELO or not, until it waits for BSY, where ENSTIMER keeps it
+-- from giving up before its timeout. RST ends each of them in one event. Manual mode comes first: SCSIEN and SPIOEN are 0
+unfoldable pub clearingOf : Bool → List (List ℕ)
+clearingOf eightbit =
+    writeRecord SXFRCTL0 manualValue
+    ∷ writeRecord SCSISEQ resetValue
+    ∷ writeRecord SCSISEQ idleValue
+    ∷ fromManual eightbit
+
+-- the clearing of a driver that has not selected since its run, and so knows the sequencer off: no pulse on RST
+unfoldable pub shortClearingOf : Bool → List (List ℕ)
+shortClearingOf eightbit = writeRecord SXFRCTL0 manualValue ∷ fromManual eightbit

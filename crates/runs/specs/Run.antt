@@ -1,5 +1,5 @@
 -- A run: how it starts, what it allows, and the bytes that go in and out.
-use Prim.Native.Nat.{ℕ, _/_, _%_}
+use Prim.Native.Nat.{ℕ, zero, suc, _/_, _%_}
 use mathlib.Core.Path.{_≡_}
 use mathlib.Core.Bool.{Bool, true, false, not, _&&_, _||_, cond}
 use mathlib.Core.List.{List, [], _∷_, _++_}
@@ -13,14 +13,17 @@ use Rattle.rules.specs.Records.{decode}
 use Rattle.rules.specs.Events.{offered, asked}
 use Rattle.rules.specs.StepB.{reqRises, storedByte, atReq, afterB}
 use Rattle.rules.specs.StepC.{conditions, settledC}
-use Rattle.rules.specs.Step.{step}
+use Rattle.rules.specs.Step.{access, step}
 use Rattle.rules.specs.declared.map.Register.the-variants.{SXFRCTL0, CLRSINT0, CLRSINT1, SIMODE0, SIMODE1, DMACNTRL1, DMADATA, STACK}
+use Rattle.rules.specs.declared.chip.Phase.the-variants.{Idle}
 use Rattle.rules.specs.declared.records.Event.{Event}
 use Rattle.rules.specs.declared.records.Event.the-variants.{PowerReset, Write, Read, WordWrite, WordRead, Drive, Ticks}
+use Rattle.rules.specs.declared.records.Decoded.the-variants.{Well}
 use Rattle.runs.specs.Comes.{unlessRefused}
 
 -- "A write run starts with FIFOs empty, counter and offset 0, ACKO 0, path with WRITE 1."
 -- "For a read run (the same with WRITE 0, IOEXP 1 ...)": path says that IOEXP differs from WRITE
+-- R-1: "a run now starts with 340h bits 6-4 clear and the sequencer idle": ENSELO, ENSELI, ENRESELI
 pub record Starts (write : Bool) (s : State) : Type 0 where
   pub host : s .transfer .host ≡ []
   pub scsi : s .transfer .scsi ≡ []
@@ -29,6 +32,10 @@ pub record Starts (write : Bool) (s : State) : Type 0 where
   pub acko : s .registers .scsisig .acko ≡ false
   pub opened : path (s .registers) ≡ true
   pub direction : s .registers .dmacntrl0 .write ≡ write
+  pub enselo : s .registers .scsiseq .enselo ≡ false
+  pub enseli : s .registers .scsiseq .enseli ≡ false
+  pub enrseli : s .registers .scsiseq .enrseli ≡ false
+  pub idle : s .sequencer .phase ≡ Idle
 
 -- "bits 4, 3, 1 zero": CLRSTCNT, SPIOEN and CLRCH
 unfoldable pub keepsRun : ℕ → Bool
@@ -77,5 +84,27 @@ tookByHandshakes s e =
     let c = conditions (afterB s e) in
     cond (c .outbound || c .synchronous) [] (replicate ((settledC s e) .acks) (c .byte))
 
+abbrev pub took : State → Event → List ℕ
+took s e = tookAtReq s e ++ tookByHandshakes s e
+
+-- R-1: "An event of n ticks leaves the chip as n events of one tick would": it takes what they take, one after the other
+unfoldable pub tookInTicks : ℕ → State → List ℕ
+tookInTicks zero s = []
+tookInTicks (suc n) s =
+    unlessRefused (took s) (Well (Ticks 1)) ((access s (Ticks 1)) .code) ++ tookInTicks n ((access s (Ticks 1)) .state)
+
+unfoldable pub tookByTicks : ℕ → State → List ℕ
+tookByTicks zero s = took s (Ticks 0)
+tookByTicks (suc n) s = tookInTicks (suc n) s
+
+abbrev pub tookInEvent : State → Event → List ℕ
+tookInEvent s PowerReset = took s PowerReset
+tookInEvent s (Write offset value) = took s (Write offset value)
+tookInEvent s (Read offset) = took s (Read offset)
+tookInEvent s (WordWrite word) = took s (WordWrite word)
+tookInEvent s WordRead = took s WordRead
+tookInEvent s (Drive lines) = took s (Drive lines)
+tookInEvent s (Ticks n) = tookByTicks n s
+
 abbrev pub chipTook : State → List ℕ → List ℕ
-chipTook s bytes = unlessRefused (λ e. tookAtReq s e ++ tookByHandshakes s e) (decode bytes) ((step s bytes) .code)
+chipTook s bytes = unlessRefused (tookInEvent s) (decode bytes) ((step s bytes) .code)
