@@ -6,7 +6,8 @@ use Rattle.rules.specs.State.{State}
 use Rattle.rules.specs.Changed.{withRegisters, withQuiet, withSequencer}
 use Rattle.rules.specs.Seen.{phaseNumber, isPhase, rstSeen}
 use Rattle.rules.specs.Events.{writes, valueOf}
-use Rattle.rules.specs.Sequencer.{called, Sequenced, sequencedOf, inPhase, selingoCleared, selectionFreed, silenced, tickIn, uncalled, letGo, forestalled, selected, begun, withdrawn, answers, resolved, sequenced}
+use Rattle.rules.specs.Sequencer.{called, sequencedOf, inPhase, selingoCleared, selectionFreed, silenced, tickIn, uncalled, letGo, forestalled, selected, begun, withdrawn, answers, resolved, sequenced}
+use Rattle.rules.specs.declared.chip.Sequenced.{Sequenced}
 use Rattle.rules.specs.StepA.{withAtn, givesUp, registersA, sequencerA, afterA}
 use Rattle.rules.specs.StepB.{registersWith, scsiseqWith, ackReleased, busReset, reqRisen, busFree, busFreed, phaseChanges, phaseChanged, afterReqRises, reqRises, afterQuietTicks, afterPhaseChanges, afterSequencer, firstFour, inOrder, atReq, afterB}
 use Rattle.rules.specs.StepD.{finished, afterD}
