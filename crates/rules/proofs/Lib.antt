@@ -12,3 +12,4 @@ pub mod Effects
 pub mod Counting
 pub mod KeptParity
 pub mod Packing
+pub mod Selection

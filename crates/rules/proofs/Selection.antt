@@ -1,0 +1,484 @@
+-- R-1, "What a reader asks" of the sequencer: over any state and any event.
+use mathlib.Core.Path.{_≡_, refl, ap, ap₂, sym, subst, _∙_}
+use mathlib.Core.Bool.{Bool, true, false, not, _&&_, _||_, cond}
+use mathlib.Core.List.{[], _∷_}
+use Prim.Native.Nat.{ℕ, _+_, _≤_}
+use native.Mathlib.Omega.{arith}
+use lib.Dec.{T, leb, ltb, eqb→eq}
+use lib.ListN.{getD}
+use Rattle.rules.specs.State.{State}
+use Rattle.rules.specs.Changed.{withQuiet}
+use Rattle.rules.specs.Seen.{phaseNumber, isPhase, phaseBsy, phaseSel, phaseDrives, rstSeen, bsySeen, selSeen}
+use Rattle.rules.specs.Events.{ticksOf, linesAfter}
+use Rattle.rules.specs.Sequencer.{busFreeDelay, arbitrationDelay, clearingDelay, settleDelay, timeout, askedBy, called, higherId, Sequenced, sequencedOf, waited, entered, selectionWith, selingoCleared, selingoRaised, seltoRaised, seldoRaised, seldiRaised, selectionFreed, silenced, arbitrates, waitingFor, arbitratingFor, selects, clearingFor, timesOut, selectingFor, reselected, answeringFor, tickIn, uncalled, letGo, forestalled, connects, selected, begun, withdrawn, answers, resolved, sequenced}
+use Rattle.rules.specs.StepA.{registersA, sequencerA, afterA}
+use Rattle.rules.specs.StepB.{reqFalls, ackReleased, afterReqFalls, rstRises, busReset, afterRstRises, reqRises, reqRisen, afterReqRises, quietAfter, busFree, busFreed, afterQuietTicks, phaseChanges, phaseChanged, afterPhaseChanges, afterSequencer, firstFour, inOrder, afterB, atReq}
+use Rattle.rules.specs.StepD.{finished, afterD}
+use Rattle.rules.specs.declared.registers.Sxfrctl1.{Sxfrctl1}
+use Rattle.rules.specs.declared.registers.Scsiid.{Scsiid}
+use Rattle.rules.specs.declared.registers.Simode0.{Simode0}
+use Rattle.rules.specs.declared.registers.Simode1.{Simode1}
+use Rattle.rules.specs.declared.chip.Phase.{Phase}
+use Rattle.rules.specs.declared.chip.Phase.the-variants.{Idle, Waiting, Arbitrating, Clearing, Selecting, Holding, Answering, Answered}
+use Rattle.rules.specs.declared.chip.Selection.{Selection}
+use Rattle.rules.specs.declared.chip.Sequencer.{Sequencer}
+use Rattle.rules.specs.declared.records.Lines.{Lines}
+use Rattle.rules.specs.declared.records.Event.{Event}
+use Rattle.rules.proofs.Logic.{never, left-true, right-true, cond-case}
+
+-- WHAT THE SEQUENCER IS HANDED
+
+-- what the steps of B before it leave of what it looks at
+record Left : Type 0 where
+  lines : Lines
+  scsirsto : Bool
+  sxfrctl1 : Sxfrctl1
+  scsiid : Scsiid
+  simode0 : Simode0
+  simode1 : Simode1
+  sequencer : Sequencer
+
+abbrev leftOf : State → Left
+leftOf n =
+    record {
+      lines = n .lines;
+      scsirsto = n .registers .scsiseq .scsirsto;
+      sxfrctl1 = n .registers .sxfrctl1;
+      scsiid = n .registers .scsiid;
+      simode0 = n .registers .simode0;
+      simode1 = n .registers .simode1;
+      sequencer = n .sequencer;
+    }
+
+-- the first three leave all of it
+module _ (l : Left) (last : State) where
+  abbrev Leaves : State → Type 0
+  Leaves n = leftOf n ≡ l
+
+  leaves-falls : (n : State) → Leaves n → Leaves (afterReqFalls last n)
+  unfolding afterReqFalls ackReleased
+  leaves-falls n h = cond-case Leaves (reqFalls last n) (ackReleased n) n (λ q. h) (λ q. h)
+
+  leaves-reset : (n : State) → Leaves n → Leaves (afterRstRises last n)
+  unfolding afterRstRises busReset
+  leaves-reset n h = cond-case Leaves (rstRises last n) (busReset n) n (λ q. h) (λ q. h)
+
+  leaves-risen : (n : State) → Leaves n → Leaves (afterReqRises last n)
+  unfolding afterReqRises reqRisen
+  leaves-risen n h = cond-case Leaves (reqRises last n) (reqRisen n) n (λ q. h) (λ q. h)
+
+-- bus free clears SELDO, and SELDI where noted
+abbrev freed : Bool → Left → Left
+freed free l =
+    record {
+      lines = l .lines;
+      scsirsto = l .scsirsto;
+      sxfrctl1 = l .sxfrctl1;
+      scsiid = l .scsiid;
+      simode0 = l .simode0;
+      simode1 = l .simode1;
+      sequencer = cond free (selectionFreed (l .sequencer)) (l .sequencer);
+    }
+
+frees : (ticks : ℕ) (n : State) → leftOf (afterQuietTicks ticks n) ≡ freed (busFree ticks n) (leftOf n)
+unfolding afterQuietTicks busFreed
+frees ticks n = go (busFree ticks n)
+  where
+    q : State
+    q = withQuiet (quietAfter ticks n) n
+
+    go : (b : Bool) → leftOf (cond b (busFreed q) q) ≡ freed b (leftOf n)
+    go true = refl
+    go false = refl
+
+module _ (s : State) (e : Event) where
+  -- the state after A, the state that the quiet ticks are handed, and that which the sequencer is handed
+  abbrev pub begun-with : State
+  begun-with = afterA s e
+
+  abbrev pub at-quiet : State
+  at-quiet = afterReqRises s (atReq s e)
+
+  abbrev pub handed : State
+  handed = firstFour s (ticksOf e) (afterA s e)
+
+  -- does the bus come free, and is it a tick?
+  abbrev pub free : Bool
+  free = busFree (ticksOf e) at-quiet
+
+  abbrev pub tick : Bool
+  tick = ltb 0 (ticksOf e)
+
+  handed-left : leftOf handed ≡ freed free (leftOf (afterA s e))
+  unfolding firstFour atReq
+  handed-left =
+      frees (ticksOf e) at-quiet
+      ∙ ap (freed free)
+      (leaves-risen (leftOf (afterA s e)) s (atReq s e)
+      (leaves-reset (leftOf (afterA s e)) s (afterReqFalls s (afterA s e)) (leaves-falls (leftOf (afterA s e)) s (afterA s e) refl)))
+
+  -- what the sequencer makes of it stands in the state after the event
+  pub after-is : sequencedOf (afterD s e) ≡ sequenced tick (s .quiet) handed
+  unfolding sequencedOf afterD finished afterB inOrder afterPhaseChanges phaseChanged afterSequencer
+  after-is = go (phaseChanges s n)
+    where
+      n : State
+      n = afterSequencer tick (s .quiet) handed
+
+      go : (b : Bool) → sequencedOf (cond b (phaseChanged n) n) ≡ sequenced tick (s .quiet) handed
+      go true = refl
+      go false = refl
+
+  -- the lines and RST are those after the event
+  pub rst-after : rstSeen (afterD s e) ≡ rstSeen handed
+  unfolding rstSeen afterD finished afterB inOrder afterPhaseChanges phaseChanged afterSequencer
+  rst-after = go (phaseChanges s n)
+    where
+      n : State
+      n = afterSequencer tick (s .quiet) handed
+
+      go : (b : Bool) → rstSeen (cond b (phaseChanged n) n) ≡ rstSeen handed
+      go true = refl
+      go false = refl
+
+  lines-after : (afterD s e) .lines ≡ handed .lines
+  unfolding afterD finished afterB inOrder afterPhaseChanges phaseChanged afterSequencer
+  lines-after = go (phaseChanges s n)
+    where
+      n : State
+      n = afterSequencer tick (s .quiet) handed
+
+      go : (b : Bool) → (cond b (phaseChanged n) n) .lines ≡ handed .lines
+      go true = refl
+      go false = refl
+
+-- PHASES
+
+-- a phase by its number
+phaseOf : ℕ → Phase
+phaseOf k = getD (Idle ∷ Waiting ∷ Arbitrating ∷ Clearing ∷ Selecting ∷ Holding ∷ Answering ∷ Answered ∷ []) k Idle
+
+phase-of : (p : Phase) → phaseOf (phaseNumber p) ≡ p
+unfolding phaseOf phaseNumber
+phase-of Idle = refl
+phase-of Waiting = refl
+phase-of Arbitrating = refl
+phase-of Clearing = refl
+phase-of Selecting = refl
+phase-of Holding = refl
+phase-of Answering = refl
+phase-of Answered = refl
+
+is-phase : (p q : Phase) → isPhase p q ≡ true → q ≡ p
+unfolding isPhase
+is-phase p q h =
+    sym (phase-of q) ∙ ap phaseOf (sym (eqb→eq (phaseNumber p) (phaseNumber q) (subst T (sym h) tt))) ∙ phase-of p
+
+-- does the sequencer drive a line or data?
+abbrev pub drives : Phase → Bool
+drives p = phaseBsy p || phaseSel p || phaseDrives p
+
+-- idle and waiting drive nothing
+resting : (p : Phase) → (isPhase Idle p || isPhase Waiting p) ≡ true → drives p ≡ false
+unfolding isPhase phaseNumber phaseBsy phaseSel phaseDrives
+resting Idle h = refl
+resting Waiting h = refl
+resting Arbitrating h = absurd (never h)
+resting Clearing h = absurd (never h)
+resting Selecting h = absurd (never h)
+resting Holding h = absurd (never h)
+resting Answering h = absurd (never h)
+resting Answered h = absurd (never h)
+
+-- a phase that drives nothing
+pub record Silent (p : Phase) : Type 0 where
+  pub bsy : phaseBsy p ≡ false
+  pub sel : phaseSel p ≡ false
+  pub drives : phaseDrives p ≡ false
+
+-- "IN EVERY EVENT, TICKS OR NOT"
+
+-- what its changes of phase keep, each from the phase that it leaves
+module _ (P : Sequenced → Type 0) where
+  pub record Changes : Type 0 where
+    pub uncalls : (x : Sequenced) → x .sequencer .phase ≡ Answering → P x → P (entered Idle x)
+    pub lets-go : (x : Sequenced) → x .sequencer .phase ≡ Answered → P x → P (entered Idle x)
+    pub forestalls : (x : Sequenced) → x .sequencer .phase ≡ Arbitrating → P x → P (entered Waiting x)
+    pub begins : (x : Sequenced) → x .sequencer .phase ≡ Idle → P x → P (entered Waiting x)
+    pub withdraws : (x : Sequenced) → x .sequencer .phase ≡ Waiting → P x → P (entered Idle x)
+    pub replies : (x : Sequenced) → drives (x .sequencer .phase) ≡ false → P x → P (entered Answering x)
+
+  -- a test of the phase and of something else
+  from : (p : Phase) (b : Bool) (x y : Sequenced) → (x .sequencer .phase ≡ p → P y) → P x → P (cond (isPhase p (x .sequencer .phase) && b) y x)
+  from p b x y f h =
+      cond-case P (isPhase p (x .sequencer .phase) && b) y x
+      (λ e. f (is-phase p (x .sequencer .phase) (left-true (isPhase p (x .sequencer .phase)) b e))) (λ e. h)
+
+  module _ (n : State) (k : Changes) where
+    keeps-uncalled : (x : Sequenced) → P x → P (uncalled n x)
+    unfolding uncalled
+    keeps-uncalled x h = from Answering (not (called n)) x (entered Idle x) (λ e. k .uncalls x e h) h
+
+    keeps-let-go : (x : Sequenced) → P x → P (letGo n x)
+    unfolding letGo
+    keeps-let-go x h = from Answered (not (n .lines .sel)) x (entered Idle x) (λ e. k .lets-go x e h) h
+
+    keeps-forestalled : (x : Sequenced) → P x → P (forestalled n x)
+    unfolding forestalled
+    keeps-forestalled x h = from Arbitrating (n .lines .sel) x (entered Waiting x) (λ e. k .forestalls x e h) h
+
+    keeps-begun : (x : Sequenced) → P x → P (begun n x)
+    unfolding begun
+    keeps-begun x h =
+        from Idle (askedBy (x .enselo) (n .registers .scsiseq .temodeo)) x (entered Waiting x) (λ e. k .begins x e h) h
+
+    keeps-withdrawn : (x : Sequenced) → P x → P (withdrawn n x)
+    unfolding withdrawn
+    keeps-withdrawn x h =
+        let p = x .sequencer .phase in
+        let u = not (askedBy (x .enselo) (n .registers .scsiseq .temodeo)) in
+        cond-case P (isPhase Waiting p && u && not (leb 8 (x .quiet))) (entered Idle x) x
+        (λ e. k .withdraws x (is-phase Waiting p (left-true (isPhase Waiting p) u (left-true (isPhase Waiting p && u) (not (leb 8 (x .quiet))) e))) h)
+        (λ e. h)
+
+    keeps-answers : (x : Sequenced) → P x → P (answers n x)
+    unfolding answers
+    keeps-answers x h =
+        let p = x .sequencer .phase in
+        cond-case P ((isPhase Idle p || isPhase Waiting p) && called n) (entered Answering x) x
+        (λ e. k .replies x (resting p (left-true (isPhase Idle p || isPhase Waiting p) (called n) e)) h) (λ e. h)
+
+    -- those before SELDO, and those after it
+    pub sooner-keeps : (x : Sequenced) → P x → P (forestalled n (letGo n (uncalled n x)))
+    sooner-keeps x h = keeps-forestalled _ (keeps-let-go _ (keeps-uncalled x h))
+
+    pub later-keeps : (x : Sequenced) → P x → P (answers n (withdrawn n (begun n x)))
+    later-keeps x h = keeps-answers _ (keeps-withdrawn _ (keeps-begun x h))
+
+-- what a change of phase leaves
+record Held : Type 0 where
+  noted : Bool
+  selid : ℕ
+  status : Selection
+  enselo : Bool
+  atno : Bool
+
+abbrev heldOf : Sequenced → Held
+heldOf x =
+    record {
+      noted = x .sequencer .noted;
+      selid = x .sequencer .selid;
+      status = x .sequencer .status;
+      enselo = x .enselo;
+      atno = x .atno;
+    }
+
+held : (h : Held) → Changes (λ x. heldOf x ≡ h)
+unfolding entered
+held h =
+    record {
+      uncalls = λ x e q. q;
+      lets-go = λ x e q. q;
+      forestalls = λ x e q. q;
+      begins = λ x e q. q;
+      withdraws = λ x e q. q;
+      replies = λ x e q. q;
+    }
+
+-- selecting or holding, which none of them begins or ends
+abbrev pub selecting : Phase → Bool
+selecting p = isPhase Selecting p || isPhase Holding p
+
+silent-unselecting : (p : Phase) → drives p ≡ false → selecting p ≡ false
+unfolding isPhase phaseNumber phaseBsy phaseSel phaseDrives
+silent-unselecting Idle h = refl
+silent-unselecting Waiting h = refl
+silent-unselecting Arbitrating h = refl
+silent-unselecting Clearing h = refl
+silent-unselecting Selecting h = h
+silent-unselecting Holding h = h
+silent-unselecting Answering h = refl
+silent-unselecting Answered h = refl
+
+selecting-held : (b : Bool) → Changes (λ x. selecting (x .sequencer .phase) ≡ b)
+unfolding entered isPhase phaseNumber
+selecting-held b =
+    record {
+      uncalls = λ x e q. rw e at q;
+      lets-go = λ x e q. rw e at q;
+      forestalls = λ x e q. rw e at q;
+      begins = λ x e q. rw e at q;
+      withdraws = λ x e q. rw e at q;
+      replies = λ x e q. rw (silent-unselecting (x .sequencer .phase) e) at q;
+    }
+
+-- none of them begins to drive: where a line is driven afterwards, nothing was changed
+still : (y : Sequenced) → Changes (λ x. drives (x .sequencer .phase) ≡ true → x ≡ y)
+unfolding entered phaseBsy phaseSel phaseDrives
+still y =
+    record {
+      uncalls = λ x e q h. absurd (never h);
+      lets-go = λ x e q h. absurd (never h);
+      forestalls = λ x e q h. absurd (never h);
+      begins = λ x e q h. absurd (never h);
+      withdraws = λ x e q h. absurd (never h);
+      replies = λ x e q h. absurd (never h);
+    }
+
+-- SELDO rises and SELINGO falls
+abbrev connectedStatus : Selection → Selection
+connectedStatus t = selectionWith true (t .seldi) false (t .selto)
+
+module _ (n : State) where
+  pub resolved-still : (x : Sequenced) → drives ((resolved n x) .sequencer .phase) ≡ true → resolved n x ≡ x
+  unfolding resolved selected connects seldoRaised phaseBsy phaseSel phaseDrives
+  resolved-still x =
+      later-keeps (λ y. drives (y .sequencer .phase) ≡ true → y ≡ x) n (still x) _
+      (cond-case (λ y. drives (y .sequencer .phase) ≡ true → y ≡ x) (selecting (z .sequencer .phase) && n .lines .bsy) (connects n z) z
+      (λ e h. absurd (never h)) (λ e. sooner-keeps (λ y. drives (y .sequencer .phase) ≡ true → y ≡ x) n (still x) x (λ h. refl)))
+    where
+      z : Sequenced
+      z = forestalled n (letGo n (uncalled n x))
+
+  selected-status : (x : Sequenced) → (selected n x) .sequencer .status ≡ cond (selecting (x .sequencer .phase) && n .lines .bsy) (connectedStatus (x .sequencer .status)) (x .sequencer .status)
+  unfolding selected connects seldoRaised
+  selected-status x = go (selecting (x .sequencer .phase) && n .lines .bsy)
+    where
+      go : (b : Bool) → (cond b (connects n x) x) .sequencer .status ≡ cond b (connectedStatus (x .sequencer .status)) (x .sequencer .status)
+      go true = refl
+      go false = refl
+
+  resolved-status : (x : Sequenced) → (resolved n x) .sequencer .status ≡ cond (selecting (x .sequencer .phase) && n .lines .bsy) (connectedStatus (x .sequencer .status)) (x .sequencer .status)
+  unfolding resolved
+  resolved-status x =
+      ap (λ (h : Held). h .status)
+      (later-keeps (λ y. heldOf y ≡ heldOf (selected n z)) n (held (heldOf (selected n z))) (selected n z) refl)
+      ∙ selected-status z
+      ∙ ap₂ (λ (b : Bool) (t : Selection). cond (b && n .lines .bsy) (connectedStatus t) t)
+      (sooner-keeps (λ y. selecting (y .sequencer .phase) ≡ selecting (x .sequencer .phase)) n (selecting-held (selecting (x .sequencer .phase))) x refl)
+      (ap (λ (h : Held). h .status) (sooner-keeps (λ y. heldOf y ≡ heldOf x) n (held (heldOf x)) x refl))
+    where
+      z : Sequenced
+      z = forestalled n (letGo n (uncalled n x))
+
+  resolved-noted : (x : Sequenced) → (resolved n x) .sequencer .noted ≡ x .sequencer .noted
+  unfolding resolved selected connects seldoRaised
+  resolved-noted x =
+      ap (λ (h : Held). h .noted)
+      (later-keeps (λ y. heldOf y ≡ heldOf (selected n z)) n (held (heldOf (selected n z))) (selected n z) refl)
+      ∙ go (selecting (z .sequencer .phase) && n .lines .bsy)
+      ∙ ap (λ (h : Held). h .noted) (sooner-keeps (λ y. heldOf y ≡ heldOf x) n (held (heldOf x)) x refl)
+    where
+      z : Sequenced
+      z = forestalled n (letGo n (uncalled n x))
+
+      go : (b : Bool) → (cond b (connects n z) z) .sequencer .noted ≡ z .sequencer .noted
+      go true = refl
+      go false = refl
+
+-- "IF THE EVENT IS A TICK, BY PHASE": the tick at which each phase ends, where k ticks were spent in it before; n is the state that
+-- the sequencer is handed, before the number of quiet ticks before the event
+module _ (n : State) (before : ℕ) where
+  -- "at 16 or more: arbitrating"
+  abbrev pub arbitratesAt : Phase → ℕ → Bool
+  arbitratesAt p k =
+      isPhase Waiting p && leb busFreeDelay (cond (leb 8 before && not (bsySeen n || selSeen n)) (k + 1) 0)
+
+  -- "at 24 (16 and 8) or more: selecting"
+  abbrev pub selectsAt : Phase → ℕ → Bool
+  selectsAt p k = isPhase Clearing p && leb clearingDelay (k + 1)
+
+  -- "at or above the limit of STIMESEL: SELTO rises"
+  abbrev pub timesOutAt : Phase → ℕ → Bool
+  timesOutAt p k = isPhase Selecting p && leb (timeout (n .registers)) (cond (n .registers .sxfrctl1 .enstimer) (k + 1) 0)
+
+  -- "at 8 or more: answered"
+  abbrev pub answersAt : Phase → ℕ → Bool
+  answersAt p k = isPhase Answering p && leb settleDelay (k + 1)
+
+  -- the statuses after the tick
+  abbrev tickedStatus : Phase → ℕ → Selection → Selection
+  tickedStatus p k t =
+      selectionWith (t .seldo) (answersAt p k || t .seldi) (selectsAt p k || (not (arbitratesAt p k) && t .selingo))
+      (timesOutAt p k || t .selto)
+
+  ticked-status : (p : Phase) (x : Sequenced) → (tickIn p before n x) .sequencer .status ≡ tickedStatus p (x .sequencer .ticks) (x .sequencer .status)
+  unfolding tickIn waitingFor arbitratingFor clearingFor selectingFor answeringFor arbitrates selects timesOut reselected waited entered selingoCleared selingoRaised seltoRaised seldiRaised isPhase phaseNumber
+  ticked-status Idle x = refl
+  ticked-status Waiting x = go (leb busFreeDelay k) k
+    where
+      k : ℕ
+      k = cond (leb 8 before && not (bsySeen n || selSeen n)) (x .sequencer .ticks + 1) 0
+
+      go : (b : Bool) (m : ℕ) → (cond b (arbitrates x) (waited m x)) .sequencer .status ≡ selectionWith (x .sequencer .status .seldo) (x .sequencer .status .seldi) (not b && x .sequencer .status .selingo) (x .sequencer .status .selto)
+      go true m = refl
+      go false m = refl
+  ticked-status Arbitrating x = go (leb arbitrationDelay (x .sequencer .ticks + 1)) (cond (higherId n) Waiting Clearing) (x .sequencer .ticks + 1)
+    where
+      go : (b : Bool) (q : Phase) (m : ℕ) → (cond b (entered q x) (waited m x)) .sequencer .status ≡ x .sequencer .status
+      go true q m = refl
+      go false q m = refl
+  ticked-status Clearing x = go (leb clearingDelay (x .sequencer .ticks + 1)) (x .sequencer .ticks + 1)
+    where
+      go : (b : Bool) (m : ℕ) → (cond b (selects n x) (waited m x)) .sequencer .status ≡ selectionWith (x .sequencer .status .seldo) (x .sequencer .status .seldi) (b || x .sequencer .status .selingo) (x .sequencer .status .selto)
+      go true m = refl
+      go false m = refl
+  ticked-status Selecting x = go (leb (timeout (n .registers)) k) k
+    where
+      k : ℕ
+      k = cond (n .registers .sxfrctl1 .enstimer) (x .sequencer .ticks + 1) 0
+
+      go : (b : Bool) (m : ℕ) → (cond b (timesOut n x) (waited m x)) .sequencer .status ≡ selectionWith (x .sequencer .status .seldo) (x .sequencer .status .seldi) (x .sequencer .status .selingo) (b || x .sequencer .status .selto)
+      go true m = refl
+      go false m = refl
+  ticked-status Holding x = refl
+  ticked-status Answering x = go (leb settleDelay (x .sequencer .ticks + 1)) (x .sequencer .ticks + 1)
+    where
+      go : (b : Bool) (m : ℕ) → (cond b (reselected n x) (waited m x)) .sequencer .status ≡ selectionWith (x .sequencer .status .seldo) (b || x .sequencer .status .seldi) (x .sequencer .status .selingo) (x .sequencer .status .selto)
+      go true m = refl
+      go false m = refl
+  ticked-status Answered x = refl
+
+  -- "noted becomes 0"
+  ticked-noted : (p : Phase) (x : Sequenced) → (tickIn p before n x) .sequencer .noted ≡ (not (answersAt p (x .sequencer .ticks)) && x .sequencer .noted)
+  unfolding tickIn waitingFor arbitratingFor clearingFor selectingFor answeringFor arbitrates selects timesOut reselected waited entered selingoCleared selingoRaised seltoRaised seldiRaised isPhase phaseNumber
+  ticked-noted Idle x = refl
+  ticked-noted Waiting x = cond-case (λ (y : Sequenced). y .sequencer .noted ≡ x .sequencer .noted) (leb busFreeDelay (cond (leb 8 before && not (bsySeen n || selSeen n)) (x .sequencer .ticks + 1) 0)) _ _ (λ e. refl) (λ e. refl)
+  ticked-noted Arbitrating x = cond-case (λ (y : Sequenced). y .sequencer .noted ≡ x .sequencer .noted) (leb arbitrationDelay (x .sequencer .ticks + 1)) _ _ (λ e. refl) (λ e. refl)
+  ticked-noted Clearing x = cond-case (λ (y : Sequenced). y .sequencer .noted ≡ x .sequencer .noted) (leb clearingDelay (x .sequencer .ticks + 1)) _ _ (λ e. refl) (λ e. refl)
+  ticked-noted Selecting x = cond-case (λ (y : Sequenced). y .sequencer .noted ≡ x .sequencer .noted) (leb (timeout (n .registers)) (cond (n .registers .sxfrctl1 .enstimer) (x .sequencer .ticks + 1) 0)) _ _ (λ e. refl) (λ e. refl)
+  ticked-noted Holding x = refl
+  ticked-noted Answering x = go (leb settleDelay (x .sequencer .ticks + 1)) (x .sequencer .ticks + 1)
+    where
+      go : (b : Bool) (m : ℕ) → (cond b (reselected n x) (waited m x)) .sequencer .noted ≡ (not b && x .sequencer .noted)
+      go true m = refl
+      go false m = refl
+  ticked-noted Answered x = refl
+
+  -- selecting or holding after the tick: SELTO with ENSELTIMO ends it
+  abbrev tickedSelecting : Phase → ℕ → Bool
+  tickedSelecting p k =
+      selectsAt p k || isPhase Holding p || (isPhase Selecting p && not (timesOutAt p k && n .registers .simode1 .enseltimo))
+
+  ticked-selecting : (p : Phase) (x : Sequenced) → x .sequencer .phase ≡ p → selecting ((tickIn p before n x) .sequencer .phase) ≡ tickedSelecting p (x .sequencer .ticks)
+  unfolding tickIn waitingFor arbitratingFor clearingFor selectingFor answeringFor arbitrates selects timesOut reselected waited entered selingoCleared selingoRaised seltoRaised seldiRaised isPhase phaseNumber
+  ticked-selecting Idle x e = rw e
+  ticked-selecting Waiting x e = cond-case (λ (y : Sequenced). selecting (y .sequencer .phase) ≡ false) (leb busFreeDelay (cond (leb 8 before && not (bsySeen n || selSeen n)) (x .sequencer .ticks + 1) 0)) _ _ (λ h. refl) (λ h. rw e)
+  ticked-selecting Arbitrating x e = cond-case (λ (y : Sequenced). selecting (y .sequencer .phase) ≡ false) (leb arbitrationDelay (x .sequencer .ticks + 1)) _ _ (λ h. cond-case (λ (q : Phase). selecting q ≡ false) (higherId n) Waiting Clearing (λ t. refl) (λ t. refl)) (λ h. rw e)
+  ticked-selecting Clearing x e = go (leb clearingDelay (x .sequencer .ticks + 1)) (x .sequencer .ticks + 1)
+    where
+      go : (b : Bool) (m : ℕ) → selecting ((cond b (selects n x) (waited m x)) .sequencer .phase) ≡ ((b || false) || false)
+      go true m = refl
+      go false m = rw e
+  ticked-selecting Selecting x e = go (leb (timeout (n .registers)) k) (n .registers .simode1 .enseltimo) k refl
+    where
+      k : ℕ
+      k = cond (n .registers .sxfrctl1 .enstimer) (x .sequencer .ticks + 1) 0
+
+      go : (b c : Bool) (m : ℕ) → n .registers .simode1 .enseltimo ≡ c → selecting ((cond b (timesOut n x) (waited m x)) .sequencer .phase) ≡ not (b && c)
+      go true true m h = rw h
+      go true false m h = rw h
+      go false c m h = rw e
+  ticked-selecting Holding x e = rw e
+  ticked-selecting Answering x e = cond-case (λ (y : Sequenced). selecting (y .sequencer .phase) ≡ false) (leb settleDelay (x .sequencer .ticks + 1)) _ _ (λ h. refl) (λ h. rw e)
+  ticked-selecting Answered x e = rw e
