@@ -11,7 +11,7 @@ use Rattle.rules.specs.Changed.{withQuiet}
 use Rattle.rules.specs.Seen.{phaseNumber, isPhase, phaseBsy, phaseSel, phaseDrives, rstSeen, bsySeen, selSeen}
 use Rattle.rules.specs.Events.{ticksOf, linesAfter}
 use Rattle.rules.specs.Sequencer.{busFreeDelay, arbitrationDelay, clearingDelay, settleDelay, timeout, askedBy, called, higherId, Sequenced, sequencedOf, waited, entered, selectionWith, selingoCleared, selingoRaised, seltoRaised, seldoRaised, seldiRaised, selectionFreed, silenced, arbitrates, waitingFor, arbitratingFor, selects, clearingFor, timesOut, selectingFor, reselected, answeringFor, tickIn, uncalled, letGo, forestalled, connects, selected, begun, withdrawn, answers, resolved, sequenced}
-use Rattle.rules.specs.StepA.{registersA, sequencerA, afterA}
+use Rattle.rules.specs.StepA.{clears, clearsLatch, registersA, givesUp, selectionA, notedA, sequencerA, afterA}
 use Rattle.rules.specs.StepB.{reqFalls, ackReleased, afterReqFalls, rstRises, busReset, afterRstRises, reqRises, reqRisen, afterReqRises, quietAfter, busFree, busFreed, afterQuietTicks, phaseChanges, phaseChanged, afterPhaseChanges, afterSequencer, firstFour, inOrder, afterB, atReq}
 use Rattle.rules.specs.StepD.{finished, afterD}
 use Rattle.rules.specs.declared.registers.Sxfrctl1.{Sxfrctl1}
@@ -92,19 +92,16 @@ frees ticks n = go (busFree ticks n)
     go false = refl
 
 module _ (s : State) (e : Event) where
-  -- the state after A, the state that the quiet ticks are handed, and that which the sequencer is handed
-  abbrev pub begun-with : State
-  begun-with = afterA s e
-
-  abbrev pub at-quiet : State
-  at-quiet = afterReqRises s (atReq s e)
+  -- the state that the quiet ticks are handed, and that which the sequencer is handed
+  abbrev pub atQuiet : State
+  atQuiet = afterReqRises s (atReq s e)
 
   abbrev pub handed : State
   handed = firstFour s (ticksOf e) (afterA s e)
 
   -- does the bus come free, and is it a tick?
   abbrev pub free : Bool
-  free = busFree (ticksOf e) at-quiet
+  free = busFree (ticksOf e) atQuiet
 
   abbrev pub tick : Bool
   tick = ltb 0 (ticksOf e)
@@ -112,7 +109,7 @@ module _ (s : State) (e : Event) where
   handed-left : leftOf handed ≡ freed free (leftOf (afterA s e))
   unfolding firstFour atReq
   handed-left =
-      frees (ticksOf e) at-quiet
+      frees (ticksOf e) atQuiet
       ∙ ap (freed free)
       (leaves-risen (leftOf (afterA s e)) s (atReq s e)
       (leaves-reset (leftOf (afterA s e)) s (afterReqFalls s (afterA s e)) (leaves-falls (leftOf (afterA s e)) s (afterA s e) refl)))
@@ -128,6 +125,10 @@ module _ (s : State) (e : Event) where
       go : (b : Bool) → sequencedOf (cond b (phaseChanged n) n) ≡ sequenced tick (s .quiet) handed
       go true = refl
       go false = refl
+
+  pub sequencer-is : (afterD s e) .sequencer ≡ (sequenced tick (s .quiet) handed) .sequencer
+  unfolding sequencedOf
+  sequencer-is = ap (λ (x : Sequenced). x .sequencer) after-is
 
   -- the lines and RST are those after the event
   pub rst-after : rstSeen (afterD s e) ≡ rstSeen handed
@@ -482,3 +483,188 @@ module _ (n : State) (before : ℕ) where
   ticked-selecting Holding x e = rw e
   ticked-selecting Answering x e = cond-case (λ (y : Sequenced). selecting (y .sequencer .phase) ≡ false) (leb settleDelay (x .sequencer .ticks + 1)) _ _ (λ h. refl) (λ h. rw e)
   ticked-selecting Answered x e = rw e
+
+  -- SELDO rises, where t tells whether the event is a tick
+  abbrev pub connectsAt : Bool → Phase → ℕ → Bool
+  connectsAt t p k = cond t (tickedSelecting p k) (selecting p) && n .lines .bsy
+
+  -- the statuses after the sequencer: r, RST is seen; t, the event is a tick
+  abbrev sequencedStatus : Bool → Bool → Phase → ℕ → Selection → Selection
+  sequencedStatus r t p k u =
+      selectionWith ((not r && connectsAt t p k) || u .seldo) ((not r && (t && answersAt p k)) || u .seldi)
+      (not r && (not (connectsAt t p k) && ((t && selectsAt p k) || (not (t && arbitratesAt p k) && u .selingo))))
+      ((not r && (t && timesOutAt p k)) || u .selto)
+
+  connected-or : (c : Bool) (u : Selection) → cond c (connectedStatus u) u ≡ selectionWith (c || u .seldo) (u .seldi) (not c && u .selingo) (u .selto)
+  connected-or true u = refl
+  connected-or false u = refl
+
+  silenced-status : (x : Sequenced) → (silenced x) .sequencer .status ≡ selectionWith (x .sequencer .status .seldo) (x .sequencer .status .seldi) false (x .sequencer .status .selto)
+  unfolding silenced selingoCleared
+  silenced-status x =
+      cond-case (λ (q : Sequencer). (selingoCleared q) .status ≡ selectionWith (x .sequencer .status .seldo) (x .sequencer .status .seldi) false (x .sequencer .status .selto))
+      (isPhase Idle (x .sequencer .phase)) _ _ (λ e. refl) (λ e. refl)
+
+  sequenced-status : (t : Bool) → (sequenced t before n) .sequencer .status ≡ sequencedStatus (rstSeen n) t (n .sequencer .phase) (n .sequencer .ticks) (n .sequencer .status)
+  unfolding sequenced sequencedOf
+  sequenced-status t = go (rstSeen n) t
+    where
+      x : Sequenced
+      x = sequencedOf n
+
+      p : Phase
+      p = n .sequencer .phase
+
+      go : (r t : Bool) → (cond r (silenced x) (resolved n (cond t (tickIn p before n x) x))) .sequencer .status ≡ sequencedStatus r t p (n .sequencer .ticks) (n .sequencer .status)
+      go true t = silenced-status x
+      go false false = resolved-status n x ∙ connected-or (selecting p && n .lines .bsy) (n .sequencer .status)
+      go false true =
+          resolved-status n (tickIn p before n x)
+          ∙ ap₂ (λ (b : Bool) (u : Selection). cond (b && n .lines .bsy) (connectedStatus u) u) (ticked-selecting p x refl) (ticked-status p x)
+          ∙ connected-or (tickedSelecting p (n .sequencer .ticks) && n .lines .bsy) (tickedStatus p (n .sequencer .ticks) (n .sequencer .status))
+
+  sequenced-noted : (t : Bool) → (sequenced t before n) .sequencer .noted ≡ (not (not (rstSeen n) && (t && answersAt (n .sequencer .phase) (n .sequencer .ticks))) && n .sequencer .noted)
+  unfolding sequenced sequencedOf silenced selingoCleared
+  sequenced-noted t = go (rstSeen n) t
+    where
+      x : Sequenced
+      x = sequencedOf n
+
+      p : Phase
+      p = n .sequencer .phase
+
+      go : (r t : Bool) → (cond r (silenced x) (resolved n (cond t (tickIn p before n x) x))) .sequencer .noted ≡ (not (not r && (t && answersAt p (n .sequencer .ticks))) && n .sequencer .noted)
+      go true t =
+          cond-case (λ (q : Sequencer). (selingoCleared q) .noted ≡ n .sequencer .noted) (isPhase Idle p) _ _ (λ e. refl) (λ e. refl)
+      go false false = resolved-noted n x
+      go false true = resolved-noted n (tickIn p before n x) ∙ ticked-noted p x
+
+-- SELDI and noted, by the tests that they hang on: a answers, f the bus comes free, n noted before, w 34Bh bit 5 is written, q the
+-- quiet ticks stood at 8, d SELDI before
+fallen : (a f n w q d : Bool) → d ≡ true → (a || (not (f && cond w (not q && d) n) && (not (w && q) && d))) ≡ false → ((w && q) || (f && (n || w))) ≡ true
+fallen true f n w q d h g = absurd (never (sym g))
+fallen false true n true true d h g = refl
+fallen false true true true false d h g = refl
+fallen false true false true false d h g = refl
+fallen false true true false q d h g = refl
+fallen false true false false q d h g = sym g ∙ h
+fallen false false n true true d h g = refl
+fallen false false n true false d h g = sym g ∙ h
+fallen false false n false q d h g = sym g ∙ h
+
+rises : (a f n w q d : Bool) → n ≡ false → (not a && (not f && cond w (not q && d) n)) ≡ true → (w && d) ≡ true
+rises true f n w q d h g = absurd (never g)
+rises false true n w q d h g = absurd (never g)
+rises false false n true true d h g = absurd (never g)
+rises false false n true false d h g = g
+rises false false n false q d h g = sym h ∙ g
+
+noted-only : (a f n w q d : Bool) → (n ≡ true → d ≡ true) → (not a && (not f && cond w (not q && d) n)) ≡ true → (a || (not (f && cond w (not q && d) n) && (not (w && q) && d))) ≡ true
+noted-only true f n w q d h g = refl
+noted-only false true n w q d h g = absurd (never g)
+noted-only false false n true true d h g = g
+noted-only false false n true false d h g = g
+noted-only false false n false q d h g = h g
+
+-- THE STATUSES AFTER ANY EVENT
+
+module _ (s : State) (e : Event) where
+  -- the sequencer as A leaves it
+  abbrev left : Sequencer
+  left = (afterA s e) .sequencer
+
+  handed-phase : (handed s e) .sequencer .phase ≡ left .phase
+  unfolding selectionFreed
+  handed-phase =
+      ap (λ (l : Left). l .sequencer .phase) (handed-left s e)
+      ∙ cond-case (λ (q : Sequencer). q .phase ≡ left .phase) (free s e) (selectionFreed left) left (λ h. refl) (λ h. refl)
+
+  handed-ticks : (handed s e) .sequencer .ticks ≡ left .ticks
+  unfolding selectionFreed
+  handed-ticks =
+      ap (λ (l : Left). l .sequencer .ticks) (handed-left s e)
+      ∙ cond-case (λ (q : Sequencer). q .ticks ≡ left .ticks) (free s e) (selectionFreed left) left (λ h. refl) (λ h. refl)
+
+  handed-noted : (handed s e) .sequencer .noted ≡ (not (free s e) && left .noted)
+  unfolding selectionFreed
+  handed-noted = ap (λ (l : Left). l .sequencer .noted) (handed-left s e) ∙ go (free s e)
+    where
+      go : (b : Bool) → (cond b (selectionFreed left) left) .noted ≡ (not b && left .noted)
+      go true = refl
+      go false = refl
+
+  abbrev freedStatus : Selection → Selection
+  freedStatus t =
+      selectionWith (not (free s e) && t .seldo) (not (free s e && left .noted) && t .seldi) (t .selingo) (t .selto)
+
+  handed-status : (handed s e) .sequencer .status ≡ freedStatus (left .status)
+  unfolding selectionFreed
+  handed-status = ap (λ (l : Left). l .sequencer .status) (handed-left s e) ∙ go (free s e)
+    where
+      go : (b : Bool) → (cond b (selectionFreed left) left) .status ≡ selectionWith (not b && left .status .seldo) (not (b && left .noted) && left .status .seldi) (left .status .selingo) (left .status .selto)
+      go true = refl
+      go false = refl
+
+  -- RST is seen; and the moments at which a status rises or falls
+  abbrev pub resets : Bool
+  resets = rstSeen (handed s e)
+
+  abbrev pub arbitratesNow : Bool
+  arbitratesNow = tick s e && arbitratesAt (handed s e) (s .quiet) (left .phase) (left .ticks)
+
+  abbrev pub selectsNow : Bool
+  selectsNow = tick s e && selectsAt (handed s e) (s .quiet) (left .phase) (left .ticks)
+
+  abbrev pub timesOutNow : Bool
+  timesOutNow = not resets && (tick s e && timesOutAt (handed s e) (s .quiet) (left .phase) (left .ticks))
+
+  abbrev pub answersNow : Bool
+  answersNow = not resets && (tick s e && answersAt (handed s e) (s .quiet) (left .phase) (left .ticks))
+
+  abbrev pub connectsNow : Bool
+  connectsNow = connectsAt (handed s e) (s .quiet) (tick s e) (left .phase) (left .ticks)
+
+  -- "the processor gives up" while selecting
+  abbrev pub givesUpNow : Bool
+  givesUpNow = givesUp (registersA (s .registers) e) (s .sequencer) e && isPhase Selecting (s .sequencer .phase)
+
+  status-left : (afterD s e) .sequencer .status ≡ sequencedStatus (handed s e) (s .quiet) resets (tick s e) (left .phase) (left .ticks) (freedStatus (left .status))
+  status-left =
+      ap (λ (q : Sequencer). q .status) (sequencer-is s e)
+      ∙ sequenced-status (handed s e) (s .quiet) (tick s e)
+      ∙ (λ i. sequencedStatus (handed s e) (s .quiet) resets (tick s e) (handed-phase i) (handed-ticks i) (handed-status i))
+
+  -- THE STATUSES after any event but power reset
+  pub status-is : (afterD s e) .sequencer .status ≡ selectionWith ((not resets && connectsNow) || (not (free s e) && s .sequencer .status .seldo)) (answersNow || (not (free s e && left .noted) && (not (clearsLatch e 5 && leb 8 (s .quiet)) && s .sequencer .status .seldi))) (not resets && (not connectsNow && (selectsNow || (not arbitratesNow && (not givesUpNow && s .sequencer .status .selingo))))) (timesOutNow || (not (clears e 7) && s .sequencer .status .selto))
+  unfolding afterA sequencerA selectionA
+  status-is = status-left
+
+  -- NOTED after any event but power reset
+  pub noted-is : (afterD s e) .sequencer .noted ≡ (not answersNow && (not (free s e) && cond (clearsLatch e 5) (not (leb 8 (s .quiet)) && s .sequencer .status .seldi) (s .sequencer .noted)))
+  unfolding afterA sequencerA notedA
+  noted-is =
+      ap (λ (q : Sequencer). q .noted) (sequencer-is s e)
+      ∙ sequenced-noted (handed s e) (s .quiet) (tick s e)
+      ∙ (λ i. not (not resets && (tick s e && answersAt (handed s e) (s .quiet) (handed-phase i) (handed-ticks i))) && handed-noted i)
+
+  -- SELDI, AND NOTED
+
+  -- SELDI, ONCE RISEN, FALLS ONLY (power reset apart) by a write of 34Bh bit 5 while the quiet ticks stand at 8, or at bus free where
+  -- it is noted or that bit is written now
+  pub seldi-falls : s .sequencer .status .seldi ≡ true → (afterD s e) .sequencer .status .seldi ≡ false → ((clearsLatch e 5 && leb 8 (s .quiet)) || (free s e && (s .sequencer .noted || clearsLatch e 5))) ≡ true
+  unfolding afterA sequencerA notedA
+  seldi-falls h g =
+      fallen answersNow (free s e) (s .sequencer .noted) (clearsLatch e 5) (leb 8 (s .quiet)) (s .sequencer .status .seldi) h
+      (sym (ap (λ (t : Selection). t .seldi) status-is) ∙ g)
+
+  -- NOTED RISES ONLY by a write of 34Bh bit 5 while SELDI is 1
+  pub noted-rises : s .sequencer .noted ≡ false → (afterD s e) .sequencer .noted ≡ true → (clearsLatch e 5 && s .sequencer .status .seldi) ≡ true
+  noted-rises h g =
+      rises answersNow (free s e) (s .sequencer .noted) (clearsLatch e 5) (leb 8 (s .quiet)) (s .sequencer .status .seldi) h (sym noted-is ∙ g)
+
+  -- "Noted is 0 whenever SELDI is 0."
+  pub noted-keeps : (s .sequencer .noted ≡ true → s .sequencer .status .seldi ≡ true) → (afterD s e) .sequencer .noted ≡ true → (afterD s e) .sequencer .status .seldi ≡ true
+  unfolding afterA sequencerA notedA
+  noted-keeps h g =
+      ap (λ (t : Selection). t .seldi) status-is
+      ∙ noted-only answersNow (free s e) (s .sequencer .noted) (clearsLatch e 5) (leb 8 (s .quiet)) (s .sequencer .status .seldi) h (sym noted-is ∙ g)
