@@ -175,6 +175,12 @@ unfolding isPhase
 is-phase p q h =
     sym (phase-of q) ∙ ap phaseOf (sym (eqb→eq (phaseNumber p) (phaseNumber q) (subst T (sym h) tt))) ∙ phase-of p
 
+-- A leaves the phase, or makes it idle
+unidle : (g : Bool) (p q : Phase) → isPhase Idle q ≡ false → cond g Idle p ≡ q → p ≡ q
+unfolding isPhase phaseNumber
+unidle true p q h e = absurd (never (sym (subst (λ (z : Phase). isPhase Idle z ≡ false) (sym e) h)))
+unidle false p q h e = e
+
 -- does the sequencer drive a line or data?
 abbrev pub drives : Phase → Bool
 drives p = phaseBsy p || phaseSel p || phaseDrives p
@@ -191,6 +197,10 @@ resting Holding h = absurd (never h)
 resting Answering h = absurd (never h)
 resting Answered h = absurd (never h)
 
+-- selecting or holding
+abbrev pub selecting : Phase → Bool
+selecting p = isPhase Selecting p || isPhase Holding p
+
 -- a phase that drives nothing
 pub record Silent (p : Phase) : Type 0 where
   pub bsy : phaseBsy p ≡ false
@@ -200,38 +210,39 @@ pub record Silent (p : Phase) : Type 0 where
 -- "IN EVERY EVENT, TICKS OR NOT"
 
 -- what its changes of phase keep, each from the phase that it leaves
-module _ (P : Sequenced → Type 0) where
+module _ (n : State) (P : Sequenced → Type 0) where
   pub record Changes : Type 0 where
     pub uncalls : (x : Sequenced) → x .sequencer .phase ≡ Answering → P x → P (entered Idle x)
     pub lets-go : (x : Sequenced) → x .sequencer .phase ≡ Answered → P x → P (entered Idle x)
-    pub forestalls : (x : Sequenced) → x .sequencer .phase ≡ Arbitrating → P x → P (entered Waiting x)
+    pub forestalls : (x : Sequenced) → x .sequencer .phase ≡ Arbitrating → n .lines .sel ≡ true → P x → P (entered Waiting x)
     pub begins : (x : Sequenced) → x .sequencer .phase ≡ Idle → P x → P (entered Waiting x)
     pub withdraws : (x : Sequenced) → x .sequencer .phase ≡ Waiting → P x → P (entered Idle x)
     pub replies : (x : Sequenced) → drives (x .sequencer .phase) ≡ false → P x → P (entered Answering x)
 
   -- a test of the phase and of something else
-  from : (p : Phase) (b : Bool) (x y : Sequenced) → (x .sequencer .phase ≡ p → P y) → P x → P (cond (isPhase p (x .sequencer .phase) && b) y x)
+  from : (p : Phase) (b : Bool) (x y : Sequenced) → (x .sequencer .phase ≡ p → b ≡ true → P y) → P x → P (cond (isPhase p (x .sequencer .phase) && b) y x)
   from p b x y f h =
-      cond-case P (isPhase p (x .sequencer .phase) && b) y x
-      (λ e. f (is-phase p (x .sequencer .phase) (left-true (isPhase p (x .sequencer .phase)) b e))) (λ e. h)
+      let q = x .sequencer .phase in
+      cond-case P (isPhase p q && b) y x
+      (λ e. f (is-phase p q (left-true (isPhase p q) b e)) (right-true (isPhase p q) b e)) (λ e. h)
 
-  module _ (n : State) (k : Changes) where
+  module _ (k : Changes) where
     keeps-uncalled : (x : Sequenced) → P x → P (uncalled n x)
     unfolding uncalled
-    keeps-uncalled x h = from Answering (not (called n)) x (entered Idle x) (λ e. k .uncalls x e h) h
+    keeps-uncalled x h = from Answering (not (called n)) x (entered Idle x) (λ e t. k .uncalls x e h) h
 
     keeps-let-go : (x : Sequenced) → P x → P (letGo n x)
     unfolding letGo
-    keeps-let-go x h = from Answered (not (n .lines .sel)) x (entered Idle x) (λ e. k .lets-go x e h) h
+    keeps-let-go x h = from Answered (not (n .lines .sel)) x (entered Idle x) (λ e t. k .lets-go x e h) h
 
     keeps-forestalled : (x : Sequenced) → P x → P (forestalled n x)
     unfolding forestalled
-    keeps-forestalled x h = from Arbitrating (n .lines .sel) x (entered Waiting x) (λ e. k .forestalls x e h) h
+    keeps-forestalled x h = from Arbitrating (n .lines .sel) x (entered Waiting x) (λ e t. k .forestalls x e t h) h
 
     keeps-begun : (x : Sequenced) → P x → P (begun n x)
     unfolding begun
     keeps-begun x h =
-        from Idle (askedBy (x .enselo) (n .registers .scsiseq .temodeo)) x (entered Waiting x) (λ e. k .begins x e h) h
+        from Idle (askedBy (x .enselo) (n .registers .scsiseq .temodeo)) x (entered Waiting x) (λ e t. k .begins x e h) h
 
     keeps-withdrawn : (x : Sequenced) → P x → P (withdrawn n x)
     unfolding withdrawn
@@ -256,40 +267,32 @@ module _ (P : Sequenced → Type 0) where
     pub later-keeps : (x : Sequenced) → P x → P (answers n (withdrawn n (begun n x)))
     later-keeps x h = keeps-answers _ (keeps-withdrawn _ (keeps-begun x h))
 
--- what a change of phase leaves
-record Held : Type 0 where
-  noted : Bool
-  selid : ℕ
-  status : Selection
-  enselo : Bool
-  atno : Bool
+    -- ALL OF THEM, where SELDO keeps it too
+    pub resolved-keeps : ((x : Sequenced) → selecting (x .sequencer .phase) ≡ true → n .lines .bsy ≡ true → P x → P (connects n x)) → (x : Sequenced) → P x → P (resolved n x)
+    unfolding resolved selected
+    resolved-keeps f x h =
+        later-keeps _
+        (cond-case P (selecting (y .sequencer .phase) && n .lines .bsy) (connects n y) y
+        (λ e. f y (left-true (selecting (y .sequencer .phase)) (n .lines .bsy) e) (right-true (selecting (y .sequencer .phase)) (n .lines .bsy) e) (sooner-keeps x h))
+        (λ e. sooner-keeps x h))
+      where
+        y : Sequenced
+        y = forestalled n (letGo n (uncalled n x))
 
-abbrev heldOf : Sequenced → Held
-heldOf x =
-    record {
-      noted = x .sequencer .noted;
-      selid = x .sequencer .selid;
-      status = x .sequencer .status;
-      enselo = x .enselo;
-      atno = x .atno;
-    }
-
-held : (h : Held) → Changes (λ x. heldOf x ≡ h)
+-- a change of phase leaves the statuses
+held : (n : State) (h : Selection) → Changes n (λ x. x .sequencer .status ≡ h)
 unfolding entered
-held h =
+held n h =
     record {
       uncalls = λ x e q. q;
       lets-go = λ x e q. q;
-      forestalls = λ x e q. q;
+      forestalls = λ x e t q. q;
       begins = λ x e q. q;
       withdraws = λ x e q. q;
       replies = λ x e q. q;
     }
 
 -- selecting or holding, which none of them begins or ends
-abbrev pub selecting : Phase → Bool
-selecting p = isPhase Selecting p || isPhase Holding p
-
 silent-unselecting : (p : Phase) → drives p ≡ false → selecting p ≡ false
 unfolding isPhase phaseNumber phaseBsy phaseSel phaseDrives
 silent-unselecting Idle h = refl
@@ -301,26 +304,26 @@ silent-unselecting Holding h = h
 silent-unselecting Answering h = refl
 silent-unselecting Answered h = refl
 
-selecting-held : (b : Bool) → Changes (λ x. selecting (x .sequencer .phase) ≡ b)
+selecting-held : (n : State) (b : Bool) → Changes n (λ x. selecting (x .sequencer .phase) ≡ b)
 unfolding entered isPhase phaseNumber
-selecting-held b =
+selecting-held n b =
     record {
       uncalls = λ x e q. rw e at q;
       lets-go = λ x e q. rw e at q;
-      forestalls = λ x e q. rw e at q;
+      forestalls = λ x e t q. rw e at q;
       begins = λ x e q. rw e at q;
       withdraws = λ x e q. rw e at q;
       replies = λ x e q. rw (silent-unselecting (x .sequencer .phase) e) at q;
     }
 
 -- none of them begins to drive: where a line is driven afterwards, nothing was changed
-still : (y : Sequenced) → Changes (λ x. drives (x .sequencer .phase) ≡ true → x ≡ y)
+still : (n : State) (y : Sequenced) → Changes n (λ x. drives (x .sequencer .phase) ≡ true → x ≡ y)
 unfolding entered phaseBsy phaseSel phaseDrives
-still y =
+still n y =
     record {
       uncalls = λ x e q h. absurd (never h);
       lets-go = λ x e q h. absurd (never h);
-      forestalls = λ x e q h. absurd (never h);
+      forestalls = λ x e t q h. absurd (never h);
       begins = λ x e q h. absurd (never h);
       withdraws = λ x e q h. absurd (never h);
       replies = λ x e q h. absurd (never h);
@@ -332,14 +335,9 @@ connectedStatus t = selectionWith true (t .seldi) false (t .selto)
 
 module _ (n : State) where
   pub resolved-still : (x : Sequenced) → drives ((resolved n x) .sequencer .phase) ≡ true → resolved n x ≡ x
-  unfolding resolved selected connects seldoRaised phaseBsy phaseSel phaseDrives
+  unfolding connects seldoRaised phaseBsy phaseSel phaseDrives
   resolved-still x =
-      later-keeps (λ y. drives (y .sequencer .phase) ≡ true → y ≡ x) n (still x) _
-      (cond-case (λ y. drives (y .sequencer .phase) ≡ true → y ≡ x) (selecting (z .sequencer .phase) && n .lines .bsy) (connects n z) z
-      (λ e h. absurd (never h)) (λ e. sooner-keeps (λ y. drives (y .sequencer .phase) ≡ true → y ≡ x) n (still x) x (λ h. refl)))
-    where
-      z : Sequenced
-      z = forestalled n (letGo n (uncalled n x))
+      resolved-keeps n (λ y. drives (y .sequencer .phase) ≡ true → y ≡ x) (still n x) (λ y e b q h. absurd (never h)) x (λ h. refl)
 
   selected-status : (x : Sequenced) → (selected n x) .sequencer .status ≡ cond (selecting (x .sequencer .phase) && n .lines .bsy) (connectedStatus (x .sequencer .status)) (x .sequencer .status)
   unfolding selected connects seldoRaised
@@ -352,30 +350,30 @@ module _ (n : State) where
   resolved-status : (x : Sequenced) → (resolved n x) .sequencer .status ≡ cond (selecting (x .sequencer .phase) && n .lines .bsy) (connectedStatus (x .sequencer .status)) (x .sequencer .status)
   unfolding resolved
   resolved-status x =
-      ap (λ (h : Held). h .status)
-      (later-keeps (λ y. heldOf y ≡ heldOf (selected n z)) n (held (heldOf (selected n z))) (selected n z) refl)
+      (later-keeps n (λ y. y .sequencer .status ≡ (selected n z) .sequencer .status) (held n ((selected n z) .sequencer .status)) (selected n z) refl)
       ∙ selected-status z
       ∙ ap₂ (λ (b : Bool) (t : Selection). cond (b && n .lines .bsy) (connectedStatus t) t)
-      (sooner-keeps (λ y. selecting (y .sequencer .phase) ≡ selecting (x .sequencer .phase)) n (selecting-held (selecting (x .sequencer .phase))) x refl)
-      (ap (λ (h : Held). h .status) (sooner-keeps (λ y. heldOf y ≡ heldOf x) n (held (heldOf x)) x refl))
+      (sooner-keeps n (λ y. selecting (y .sequencer .phase) ≡ selecting (x .sequencer .phase)) (selecting-held n (selecting (x .sequencer .phase))) x refl)
+      (sooner-keeps n (λ y. y .sequencer .status ≡ x .sequencer .status) (held n (x .sequencer .status)) x refl)
     where
       z : Sequenced
       z = forestalled n (letGo n (uncalled n x))
 
   resolved-noted : (x : Sequenced) → (resolved n x) .sequencer .noted ≡ x .sequencer .noted
-  unfolding resolved selected connects seldoRaised
+  unfolding connects seldoRaised entered
   resolved-noted x =
-      ap (λ (h : Held). h .noted)
-      (later-keeps (λ y. heldOf y ≡ heldOf (selected n z)) n (held (heldOf (selected n z))) (selected n z) refl)
-      ∙ go (selecting (z .sequencer .phase) && n .lines .bsy)
-      ∙ ap (λ (h : Held). h .noted) (sooner-keeps (λ y. heldOf y ≡ heldOf x) n (held (heldOf x)) x refl)
+      resolved-keeps n (λ y. y .sequencer .noted ≡ x .sequencer .noted) noted-held (λ y e b q. q) x refl
     where
-      z : Sequenced
-      z = forestalled n (letGo n (uncalled n x))
-
-      go : (b : Bool) → (cond b (connects n z) z) .sequencer .noted ≡ z .sequencer .noted
-      go true = refl
-      go false = refl
+      noted-held : Changes n (λ y. y .sequencer .noted ≡ x .sequencer .noted)
+      noted-held =
+          record {
+            uncalls = λ y e q. q;
+            lets-go = λ y e q. q;
+            forestalls = λ y e t q. q;
+            begins = λ y e q. q;
+            withdraws = λ y e q. q;
+            replies = λ y e q. q;
+          }
 
 -- "IF THE EVENT IS A TICK, BY PHASE": the tick at which each phase ends, where k ticks were spent in it before; n is the state that
 -- the sequencer is handed, before the number of quiet ticks before the event
@@ -668,3 +666,191 @@ module _ (s : State) (e : Event) where
   noted-keeps h g =
       ap (λ (t : Selection). t .seldi) status-is
       ∙ noted-only answersNow (free s e) (s .sequencer .noted) (clearsLatch e 5) (leb 8 (s .quiet)) (s .sequencer .status .seldi) h (sym noted-is ∙ g)
+
+-- SELDO, AND SELINGO
+
+-- a phase that A may end: it is another than idle only where it was so before
+unended : (n : State) (before : ℕ) (t g : Bool) (p : Phase) (k : ℕ) → connectsAt n before t (cond g Idle p) (cond g 0 k) ≡ true → (selecting p || (t && selectsAt n before p k)) ≡ true
+unfolding isPhase phaseNumber
+unended n before true true p k h = absurd (never h)
+unended n before false true p k h = absurd (never h)
+unended n before true false p k h =
+    go (selectsAt n before p k) (isPhase Holding p) (isPhase Selecting p) _ (left-true (tickedSelecting n before p k) (n .lines .bsy) h)
+  where
+    go : (a b c d : Bool) → ((a || b) || (c && d)) ≡ true → ((c || b) || a) ≡ true
+    go true true true d h = refl
+    go true true false d h = refl
+    go true false true d h = refl
+    go true false false d h = refl
+    go false true true d h = refl
+    go false true false d h = refl
+    go false false true d h = refl
+    go false false false d h = h
+unended n before false false p k h =
+    go (selecting p) (left-true (selecting p) (n .lines .bsy) h)
+  where
+    go : (a : Bool) → a ≡ true → (a || false) ≡ true
+    go true h = refl
+    go false h = h
+
+-- others drive BSY, and the phase before was selecting or holding, or the tick ended the clearing
+pub record Connects (s : State) (e : Event) : Type 0 where
+  pub bsy : (afterD s e) .lines .bsy ≡ true
+  pub phase : (selecting (s .sequencer .phase) || (tick s e && (isPhase Clearing (s .sequencer .phase) && leb clearingDelay (s .sequencer .ticks + 1)))) ≡ true
+
+module _ (s : State) (e : Event) where
+  connects-from : connectsNow s e ≡ true → Connects s e
+  unfolding afterA sequencerA
+  connects-from h =
+      record {
+        bsy = ap (λ (l : Lines). l .bsy) (lines-after s e) ∙ right-true (cond (tick s e) (tickedSelecting (handed s e) (s .quiet) (left s e .phase) (left s e .ticks)) (selecting (left s e .phase))) ((handed s e) .lines .bsy) h;
+        phase =
+            unended (handed s e) (s .quiet) (tick s e) (givesUp (registersA (s .registers) e) (s .sequencer) e) (s .sequencer .phase)
+            (s .sequencer .ticks) h;
+      }
+
+  -- SELDO COMES ONLY FROM BSY OF OTHERS while selecting or holding
+  pub seldo-comes : s .sequencer .status .seldo ≡ false → (afterD s e) .sequencer .status .seldo ≡ true → Connects s e
+  seldo-comes h g =
+      connects-from (go (resets s e) (connectsNow s e) (free s e) _ h (sym (ap (λ (t : Selection). t .seldo) (status-is s e)) ∙ g))
+    where
+      go : (r c f d : Bool) → d ≡ false → ((not r && c) || (not f && d)) ≡ true → c ≡ true
+      go r true f d h g = refl
+      go true false true d h g = g
+      go true false false d h g = sym h ∙ g
+      go false false true d h g = g
+      go false false false d h g = sym h ∙ g
+
+-- a tick that makes it arbitrate leaves it so: then others do not drive SEL
+unseen-unsel : (n : State) → not (bsySeen n || selSeen n) ≡ true → n .lines .sel ≡ false
+unfolding selSeen
+unseen-unsel n = go (bsySeen n) (n .lines .sel) (n .registers .scsisig .selo) (phaseSel (n .sequencer .phase))
+  where
+    go : (a b c d : Bool) → not (a || ((b || c) || d)) ≡ true → b ≡ false
+    go true b c d h = absurd (never h)
+    go false true c d h = absurd (never h)
+    go false false c d h = refl
+
+module _ (n : State) (before : ℕ) where
+  arbitrating-unsel : (p : Phase) (k : ℕ) → arbitratesAt n before p k ≡ true → n .lines .sel ≡ false
+  arbitrating-unsel p k h =
+      unseen-unsel n
+      (right-true (leb 8 before) (not (bsySeen n || selSeen n))
+      (go (leb 8 before && not (bsySeen n || selSeen n)) (right-true (isPhase Waiting p) _ h)))
+    where
+      go : (c : Bool) → leb busFreeDelay (cond c (k + 1) 0) ≡ true → c ≡ true
+      go true h = refl
+      go false h = h
+
+  stays-arbitrating : (x : Sequenced) → n .lines .sel ≡ false → x .sequencer .phase ≡ Arbitrating → (resolved n x) .sequencer .phase ≡ Arbitrating
+  unfolding entered connects isPhase phaseNumber phaseBsy phaseSel phaseDrives
+  stays-arbitrating x unsel h =
+      resolved-keeps n (λ y. y .sequencer .phase ≡ Arbitrating) kept
+      (λ y e b q. absurd (never (rw q at e))) x h
+    where
+      kept : Changes n (λ y. y .sequencer .phase ≡ Arbitrating)
+      kept =
+          record {
+            uncalls = λ y e q. cc;
+            lets-go = λ y e q. cc;
+            forestalls = λ y e t q. cc;
+            begins = λ y e q. cc;
+            withdraws = λ y e q. cc;
+            replies = λ y e q. absurd (never (sym (rw q at e)));
+          }
+
+  arbitrates-tick : (p : Phase) (x : Sequenced) → arbitratesAt n before p (x .sequencer .ticks) ≡ true → (tickIn p before n x) .sequencer .phase ≡ Arbitrating
+  unfolding tickIn waitingFor arbitrates selingoCleared isPhase phaseNumber
+  arbitrates-tick Idle x h = absurd (never h)
+  arbitrates-tick Waiting x h = rw h
+  arbitrates-tick Arbitrating x h = absurd (never h)
+  arbitrates-tick Clearing x h = absurd (never h)
+  arbitrates-tick Selecting x h = absurd (never h)
+  arbitrates-tick Holding x h = absurd (never h)
+  arbitrates-tick Answering x h = absurd (never h)
+  arbitrates-tick Answered x h = absurd (never h)
+
+module _ (s : State) (e : Event) where
+  -- what the sequencer starts from, and what a tick makes of it
+  abbrev start : Sequenced
+  start = sequencedOf (handed s e)
+
+  abbrev ticked : Sequenced
+  ticked = cond (tick s e) (tickIn (start .sequencer .phase) (s .quiet) (handed s e) start) start
+
+  under-reset : resets s e ≡ true → (afterD s e) .sequencer ≡ (silenced start) .sequencer
+  unfolding sequenced
+  under-reset r = sequencer-is s e ∙ rw r
+
+  no-reset : resets s e ≡ false → (afterD s e) .sequencer ≡ (resolved (handed s e) ticked) .sequencer
+  unfolding sequenced
+  no-reset r = sequencer-is s e ∙ rw r
+
+  start-phase : start .sequencer .phase ≡ left s e .phase
+  unfolding sequencedOf
+  start-phase = handed-phase s e
+
+  start-ticks : start .sequencer .ticks ≡ left s e .ticks
+  unfolding sequencedOf
+  start-ticks = handed-ticks s e
+
+  -- THE SEQUENCER DRIVES NOTHING WHILE RST IS SEEN: it is idle after every event at whose end RST is seen
+  pub idle-under-reset : rstSeen (afterD s e) ≡ true → (afterD s e) .sequencer .phase ≡ Idle
+  unfolding silenced selingoCleared
+  idle-under-reset h =
+      ap (λ (q : Sequencer). q .phase) (under-reset (sym (rst-after s e) ∙ h))
+      ∙ cond-case (λ (q : Sequencer). q .phase ≡ Idle) (isPhase Idle (start .sequencer .phase)) (start .sequencer) _ (λ i. is-phase Idle (start .sequencer .phase) i) (λ i. refl)
+
+  -- SELINGO falls here
+  pub data Falls : Type 0 where
+    at-reset : rstSeen (afterD s e) ≡ true → Falls
+    at-seldo : (afterD s e) .sequencer .status .seldo ≡ true → Connects s e → Falls
+    at-arbitrating : s .sequencer .phase ≡ Waiting → (afterD s e) .sequencer .phase ≡ Arbitrating → Falls
+    at-giving-up : givesUp (registersA (s .registers) e) (s .sequencer) e ≡ true → s .sequencer .phase ≡ Selecting → Falls
+
+  left-unidle : (q : Phase) → isPhase Idle q ≡ false → left s e .phase ≡ q → s .sequencer .phase ≡ q
+  unfolding afterA sequencerA
+  left-unidle = unidle (givesUp (registersA (s .registers) e) (s .sequencer) e) (s .sequencer .phase)
+
+  arbitrates-phase : resets s e ≡ false → arbitratesNow s e ≡ true → (afterD s e) .sequencer .phase ≡ Arbitrating
+  arbitrates-phase r a =
+      ap (λ (q : Sequencer). q .phase) (no-reset r)
+      ∙ stays-arbitrating n (s .quiet) ticked (arbitrating-unsel n (s .quiet) (q .phase) (q .ticks) at)
+      (rw t (arbitrates-tick n (s .quiet) (start .sequencer .phase) start ((λ i. arbitratesAt n (s .quiet) (start-phase i) (start-ticks i)) ∙ at)))
+    where
+      q : Sequencer
+      q = left s e
+
+      n : State
+      n = handed s e
+
+      t : tick s e ≡ true
+      t = left-true (tick s e) (arbitratesAt n (s .quiet) (q .phase) (q .ticks)) a
+
+      at : arbitratesAt n (s .quiet) (q .phase) (q .ticks) ≡ true
+      at = right-true (tick s e) (arbitratesAt n (s .quiet) (q .phase) (q .ticks)) a
+
+  arbitrates-before : arbitratesNow s e ≡ true → s .sequencer .phase ≡ Waiting
+  unfolding isPhase phaseNumber
+  arbitrates-before a =
+      left-unidle Waiting refl
+      (is-phase Waiting (left s e .phase) (left-true (isPhase Waiting (left s e .phase)) _ (right-true (tick s e) (arbitratesAt (handed s e) (s .quiet) (left s e .phase) (left s e .ticks)) a)))
+
+  -- SELINGO FALLS ONLY at arbitrating, SELDO, RST, and giving up while selecting (power reset apart)
+  pub selingo-falls : s .sequencer .status .selingo ≡ true → (afterD s e) .sequencer .status .selingo ≡ false → Falls
+  selingo-falls h g =
+      go (resets s e) (connectsNow s e) (selectsNow s e) (arbitratesNow s e) (givesUpNow s e) (s .sequencer .status .selingo) refl refl refl refl h
+      (sym (ap (λ (t : Selection). t .selingo) (status-is s e)) ∙ g)
+    where
+      risen : resets s e ≡ false → connectsNow s e ≡ true → (afterD s e) .sequencer .status .seldo ≡ true
+      risen r c = ap (λ (t : Selection). t .seldo) (status-is s e) ∙ rw (r, c)
+
+      go : (r c v a g d : Bool) → resets s e ≡ r → connectsNow s e ≡ c → arbitratesNow s e ≡ a → givesUpNow s e ≡ g → d ≡ true → (not r && (not c && (v || (not a && (not g && d))))) ≡ false → Falls
+      go true c v a g d er ec ea eg h q = at-reset (rst-after s e ∙ er)
+      go false true v a g d er ec ea eg h q = at-seldo (risen er ec) (connects-from s e ec)
+      go false false true a g d er ec ea eg h q = absurd (never (sym q))
+      go false false false true g d er ec ea eg h q = at-arbitrating (arbitrates-before ea) (arbitrates-phase er ea)
+      go false false false false true d er ec ea eg h q =
+          at-giving-up (left-true (givesUp (registersA (s .registers) e) (s .sequencer) e) _ eg)
+          (is-phase Selecting (s .sequencer .phase) (right-true (givesUp (registersA (s .registers) e) (s .sequencer) e) _ eg))
+      go false false false false false d er ec ea eg h q = absurd (never (sym q ∙ h))
