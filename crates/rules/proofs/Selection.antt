@@ -9,8 +9,8 @@ use lib.ListN.{getD}
 use Rattle.rules.specs.State.{State}
 use Rattle.rules.specs.Changed.{withQuiet}
 use Rattle.rules.specs.Seen.{phaseNumber, isPhase, phaseBsy, phaseSel, phaseDrives, rstSeen, bsySeen, selSeen}
-use Rattle.rules.specs.Events.{ticksOf, linesAfter}
-use Rattle.rules.specs.Sequencer.{busFreeDelay, arbitrationDelay, clearingDelay, settleDelay, timeout, askedBy, called, higherId, Sequenced, sequencedOf, waited, entered, selectionWith, selingoCleared, selingoRaised, seltoRaised, seldoRaised, seldiRaised, selectionFreed, silenced, arbitrates, waitingFor, arbitratingFor, selects, clearingFor, timesOut, selectingFor, reselected, answeringFor, tickIn, uncalled, letGo, forestalled, connects, selected, begun, withdrawn, answers, resolved, sequenced}
+use Rattle.rules.specs.Events.{writes, ticksOf, linesAfter}
+use Rattle.rules.specs.Sequencer.{busFreeDelay, arbitrationDelay, clearingDelay, settleDelay, timeout, askedBy, selectionAsked, called, higherId, Sequenced, sequencedOf, waited, entered, selectionWith, selingoCleared, selingoRaised, seltoRaised, seldoRaised, seldiRaised, selectionFreed, silenced, arbitrates, waitingFor, arbitratingFor, selects, clearingFor, timesOut, selectingFor, reselected, answeringFor, tickIn, uncalled, letGo, forestalled, connects, selected, begun, withdrawn, answers, resolved, sequenced}
 use Rattle.rules.specs.StepA.{clears, clearsLatch, registersA, givesUp, selectionA, notedA, sequencerA, afterA}
 use Rattle.rules.specs.StepB.{reqFalls, ackReleased, afterReqFalls, rstRises, busReset, afterRstRises, reqRises, reqRisen, afterReqRises, quietAfter, busFree, busFreed, afterQuietTicks, phaseChanges, phaseChanged, afterPhaseChanges, afterSequencer, firstFour, inOrder, afterB, atReq}
 use Rattle.rules.specs.StepD.{finished, afterD}
@@ -18,6 +18,8 @@ use Rattle.rules.specs.declared.registers.Sxfrctl1.{Sxfrctl1}
 use Rattle.rules.specs.declared.registers.Scsiid.{Scsiid}
 use Rattle.rules.specs.declared.registers.Simode0.{Simode0}
 use Rattle.rules.specs.declared.registers.Simode1.{Simode1}
+use Rattle.rules.specs.declared.registers.Registers.{Registers}
+use Rattle.rules.specs.declared.map.Register.the-variants.{SCSISEQ}
 use Rattle.rules.specs.declared.chip.Phase.{Phase}
 use Rattle.rules.specs.declared.chip.Phase.the-variants.{Idle, Waiting, Arbitrating, Clearing, Selecting, Holding, Answering, Answered}
 use Rattle.rules.specs.declared.chip.Selection.{Selection}
@@ -139,6 +141,17 @@ module _ (s : State) (e : Event) where
       n = afterSequencer tick (s .quiet) handed
 
       go : (b : Bool) → rstSeen (cond b (phaseChanged n) n) ≡ rstSeen handed
+      go true = refl
+      go false = refl
+
+  higher-after : higherId (afterD s e) ≡ higherId handed
+  unfolding higherId afterD finished afterB inOrder afterPhaseChanges phaseChanged afterSequencer
+  higher-after = go (phaseChanges s n)
+    where
+      n : State
+      n = afterSequencer tick (s .quiet) handed
+
+      go : (b : Bool) → higherId (cond b (phaseChanged n) n) ≡ higherId handed
       go true = refl
       go false = refl
 
@@ -854,3 +867,144 @@ module _ (s : State) (e : Event) where
           at-giving-up (left-true (givesUp (registersA (s .registers) e) (s .sequencer) e) _ eg)
           (is-phase Selecting (s .sequencer .phase) (right-true (givesUp (registersA (s .registers) e) (s .sequencer) e) _ eg))
       go false false false false false d er ec ea eg h q = absurd (never (sym q ∙ h))
+
+-- NOTHING IS DRIVEN
+
+pub silent : (p : Phase) → drives p ≡ false → Silent p
+silent p = go (phaseBsy p) (phaseSel p) (phaseDrives p) refl refl refl
+  where
+    go : (a b c : Bool) → phaseBsy p ≡ a → phaseSel p ≡ b → phaseDrives p ≡ c → ((a || b) || c) ≡ false → Silent p
+    go true b c ea eb ec h = absurd (never (sym h))
+    go false true c ea eb ec h = absurd (never (sym h))
+    go false false true ea eb ec h = absurd (never (sym h))
+    go false false false ea eb ec h = record { bsy = ea; sel = eb; drives = ec }
+
+-- none of the changes of phase begins to drive
+silences : (n : State) → Changes n (λ x. drives (x .sequencer .phase) ≡ false)
+unfolding entered phaseBsy phaseSel phaseDrives
+silences n =
+    record {
+      uncalls = λ x e q. refl;
+      lets-go = λ x e q. refl;
+      forestalls = λ x e t q. refl;
+      begins = λ x e q. refl;
+      withdraws = λ x e q. refl;
+      replies = λ x e q. refl;
+    }
+
+-- arbitrating, and others drive SEL: nothing is driven afterwards
+module _ (n : State) where
+  arbitrating-kept : (x : Sequenced) → x .sequencer .phase ≡ Arbitrating → (letGo n (uncalled n x)) .sequencer .phase ≡ Arbitrating
+  unfolding letGo uncalled entered
+  arbitrating-kept x h =
+      from n Kept Answered (not (n .lines .sel)) y (entered Idle y) (λ e t. other e kept) kept
+    where
+      Kept : Sequenced → Type 0
+      Kept z = z .sequencer .phase ≡ Arbitrating
+
+      y : Sequenced
+      y = uncalled n x
+
+      other : {p : Phase} → p ≡ Answered → p ≡ Arbitrating → Idle ≡ Arbitrating
+      other a b = cc
+
+      kept : y .sequencer .phase ≡ Arbitrating
+      kept = from n Kept Answering (not (called n)) x (entered Idle x) (λ e t. cc) h
+
+  forestalled-silent : (x : Sequenced) → x .sequencer .phase ≡ Arbitrating → n .lines .sel ≡ true → drives ((resolved n x) .sequencer .phase) ≡ false
+  unfolding resolved selected connects seldoRaised forestalled entered isPhase phaseNumber phaseBsy phaseSel phaseDrives
+  forestalled-silent x h l =
+      later-keeps n Quiet (silences n) _
+      (cond-case Quiet (selecting (z .sequencer .phase) && n .lines .bsy) (connects n z) z (λ e. refl) (λ e. lost))
+    where
+      Quiet : Sequenced → Type 0
+      Quiet w = drives (w .sequencer .phase) ≡ false
+
+      y : Sequenced
+      y = letGo n (uncalled n x)
+
+      z : Sequenced
+      z = forestalled n y
+
+      lost : drives (z .sequencer .phase) ≡ false
+      lost =
+          cond-case Quiet (isPhase Arbitrating (y .sequencer .phase) && n .lines .sel) (entered Waiting y) y (λ e. refl)
+          (λ e. absurd (never (sym (rw (arbitrating-kept x h, l) at e))))
+
+  -- what drives nothing goes on so
+  resolved-silent : (x : Sequenced) → drives (x .sequencer .phase) ≡ false → drives ((resolved n x) .sequencer .phase) ≡ false
+  unfolding connects seldoRaised phaseBsy phaseSel phaseDrives
+  resolved-silent = resolved-keeps n (λ x. drives (x .sequencer .phase) ≡ false) (silences n) (λ x e b q. refl)
+
+  -- an arbitration that is lost: at its last tick others drive a higher ID, or before it they drive SEL
+  lost-tick : (before : ℕ) (x : Sequenced) → x .sequencer .phase ≡ Arbitrating → cond (leb arbitrationDelay (x .sequencer .ticks + 1)) (higherId n) (n .lines .sel) ≡ true → drives ((resolved n (tickIn Arbitrating before n x)) .sequencer .phase) ≡ false
+  unfolding tickIn arbitratingFor waited entered phaseBsy phaseSel phaseDrives
+  lost-tick before x h = go (leb arbitrationDelay (x .sequencer .ticks + 1))
+    where
+      go : (b : Bool) → cond b (higherId n) (n .lines .sel) ≡ true → drives ((resolved n (cond b (entered (cond (higherId n) Waiting Clearing) x) (waited (x .sequencer .ticks + 1) x))) .sequencer .phase) ≡ false
+      go true l = resolved-silent (entered (cond (higherId n) Waiting Clearing) x) (rw l)
+      go false l = forestalled-silent (waited (x .sequencer .ticks + 1) x) h l
+
+  lost-ticked : (t : Bool) (before : ℕ) (x : Sequenced) → x .sequencer .phase ≡ Arbitrating → cond (t && leb arbitrationDelay (x .sequencer .ticks + 1)) (higherId n) (n .lines .sel) ≡ true → drives ((resolved n (cond t (tickIn (x .sequencer .phase) before n x) x)) .sequencer .phase) ≡ false
+  lost-ticked true before x h l =
+      subst (λ (p : Phase). drives ((resolved n (tickIn p before n x)) .sequencer .phase) ≡ false) (sym h) (lost-tick before x h l)
+  lost-ticked false before x h l = forestalled-silent x h l
+
+module _ (s : State) (e : Event) where
+  -- only while selecting or holding can the processor give up
+  keeps-on : selecting (s .sequencer .phase) ≡ false → givesUp (registersA (s .registers) e) (s .sequencer) e ≡ false
+  unfolding givesUp
+  keeps-on h =
+      go (writes e SCSISEQ && not (selectionAsked r)) (isPhase Selecting p) (isPhase Holding p) (not (r .sxfrctl1 .enstimer)) h
+    where
+      r : Registers
+      r = registersA (s .registers) e
+
+      p : Phase
+      p = s .sequencer .phase
+
+      go : (a b c d : Bool) → (b || c) ≡ false → (a && (c || (b && d))) ≡ false
+      go true true c d h = absurd (never (sym h))
+      go true false true d h = h
+      go true false false d h = refl
+      go false b c d h = refl
+
+  left-phase : selecting (s .sequencer .phase) ≡ false → left s e .phase ≡ s .sequencer .phase
+  unfolding afterA sequencerA
+  left-phase h = rw (keeps-on h)
+
+  left-ticks : selecting (s .sequencer .phase) ≡ false → left s e .ticks ≡ s .sequencer .ticks
+  unfolding afterA sequencerA
+  left-ticks h = rw (keeps-on h)
+
+  -- others drive a higher ID at the last tick of the arbitration, or SEL before it
+  abbrev pub lost : Bool
+  lost =
+      cond (tick s e && leb arbitrationDelay (s .sequencer .ticks + 1)) (higherId (afterD s e)) ((afterD s e) .lines .sel)
+
+  -- A LOST ARBITRATION DRIVES NOTHING, from the event that loses it
+  pub lost-drives-nothing : s .sequencer .phase ≡ Arbitrating → lost ≡ true → Silent ((afterD s e) .sequencer .phase)
+  unfolding sequencedOf isPhase phaseNumber phaseBsy phaseSel phaseDrives
+  lost-drives-nothing h l = silent ((afterD s e) .sequencer .phase) (go (resets s e) refl)
+    where
+      n : State
+      n = handed s e
+
+      unselecting : selecting (s .sequencer .phase) ≡ false
+      unselecting = rw h
+
+      phase : n .sequencer .phase ≡ Arbitrating
+      phase = handed-phase s e ∙ left-phase unselecting ∙ h
+
+      ticks : n .sequencer .ticks ≡ s .sequencer .ticks
+      ticks = handed-ticks s e ∙ left-ticks unselecting
+
+      lost-there : cond (tick s e && leb arbitrationDelay (n .sequencer .ticks + 1)) (higherId n) (n .lines .sel) ≡ true
+      lost-there =
+          (λ i. cond (tick s e && leb arbitrationDelay (ticks i + 1)) (sym (higher-after s e) i) (sym (lines-after s e) i .sel)) ∙ l
+
+      go : (b : Bool) → resets s e ≡ b → drives ((afterD s e) .sequencer .phase) ≡ false
+      go true r = rw (idle-under-reset s e (rst-after s e ∙ r))
+      go false r =
+          ap (λ (q : Sequencer). drives (q .phase)) (no-reset s e r)
+          ∙ lost-ticked n (tick s e) (s .quiet) (sequencedOf n) phase lost-there
