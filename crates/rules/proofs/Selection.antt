@@ -2,10 +2,12 @@
 use mathlib.Core.Path.{_≡_, refl, ap, ap₂, sym, subst, _∙_}
 use mathlib.Core.Bool.{Bool, true, false, not, _&&_, _||_, cond}
 use mathlib.Core.List.{[], _∷_}
-use Prim.Native.Nat.{ℕ, _+_, _≤_}
+use Prim.Native.Nat.{ℕ, zero, suc, _+_, _/_, _^_, _≤_}
 use native.Mathlib.Omega.{arith}
 use lib.Dec.{T, leb, ltb, eqb→eq}
 use lib.ListN.{getD}
+use borrow.Author.Tests.{leb-true}
+use Rattle.rules.specs.Numbers.{one}
 use Rattle.rules.specs.State.{State}
 use Rattle.rules.specs.Changed.{withQuiet}
 use Rattle.rules.specs.Seen.{phaseNumber, isPhase, phaseBsy, phaseSel, phaseDrives, rstSeen, bsySeen, selSeen}
@@ -26,6 +28,7 @@ use Rattle.rules.specs.declared.chip.Selection.{Selection}
 use Rattle.rules.specs.declared.chip.Sequencer.{Sequencer}
 use Rattle.rules.specs.declared.records.Lines.{Lines}
 use Rattle.rules.specs.declared.records.Event.{Event}
+use Rattle.rules.specs.declared.records.Event.the-variants.{PowerReset, Write, Read, WordWrite, WordRead, Drive, Ticks}
 use Rattle.rules.proofs.Logic.{never, left-true, right-true, cond-case}
 
 -- WHAT THE SEQUENCER IS HANDED
@@ -1008,3 +1011,182 @@ module _ (s : State) (e : Event) where
       go false r =
           ap (λ (q : Sequencer). drives (q .phase)) (no-reset s e r)
           ∙ lost-ticked n (tick s e) (s .quiet) (sequencedOf n) phase lost-there
+
+-- idle, as RST leaves it, and waiting drive nothing
+pub idle-silent : Silent Idle
+unfolding phaseBsy phaseSel phaseDrives
+idle-silent = record { bsy = refl; sel = refl; drives = refl }
+
+pub waiting-silent : Silent Waiting
+unfolding phaseBsy phaseSel phaseDrives
+waiting-silent = record { bsy = refl; sel = refl; drives = refl }
+
+-- SEL AFTER ARBITRATION
+
+-- the tick that ends an arbitration, with 47 ticks or more behind it, and wins it
+record Won (n : State) (p : Phase) (k : ℕ) : Type 0 where
+  phase : p ≡ Arbitrating
+  ticks : leb arbitrationDelay (k + 1) ≡ true
+  highest : higherId n ≡ false
+
+module _ (n : State) (before : ℕ) where
+  -- by no other tick does it begin to drive SEL
+  ticked-sel : (p : Phase) (x : Sequenced) → x .sequencer .phase ≡ p → phaseSel p ≡ false → phaseSel ((tickIn p before n x) .sequencer .phase) ≡ true → Won n p (x .sequencer .ticks)
+  unfolding tickIn waitingFor arbitratingFor clearingFor selectingFor answeringFor arbitrates selects timesOut reselected waited entered selingoCleared selingoRaised seltoRaised seldiRaised phaseSel
+  ticked-sel Idle x e u = λ h. absurd (never (rw e at h))
+  ticked-sel Waiting x e u =
+      cond-case (λ (y : Sequenced). phaseSel (y .sequencer .phase) ≡ true → Won n Waiting (x .sequencer .ticks))
+      (leb busFreeDelay (cond (leb 8 before && not (bsySeen n || selSeen n)) (x .sequencer .ticks + 1) 0)) _ _
+      (λ t h. absurd (never h)) (λ t h. absurd (never (rw e at h)))
+  ticked-sel Arbitrating x e u = go (leb arbitrationDelay (x .sequencer .ticks + 1)) (higherId n) refl refl
+    where
+      go : (b c : Bool) → leb arbitrationDelay (x .sequencer .ticks + 1) ≡ b → higherId n ≡ c → phaseSel ((cond b (entered (cond c Waiting Clearing) x) (waited (x .sequencer .ticks + 1) x)) .sequencer .phase) ≡ true → Won n Arbitrating (x .sequencer .ticks)
+      go true true eb ec h = absurd (never h)
+      go true false eb ec h = record { phase = refl; ticks = eb; highest = ec }
+      go false c eb ec h = absurd (never (rw e at h))
+  ticked-sel Clearing x e u = λ h. absurd (never (sym u))
+  ticked-sel Selecting x e u = λ h. absurd (never (sym u))
+  ticked-sel Holding x e u = λ h. absurd (never (sym u))
+  ticked-sel Answering x e u =
+      cond-case (λ (y : Sequenced). phaseSel (y .sequencer .phase) ≡ true → Won n Answering (x .sequencer .ticks))
+      (leb settleDelay (x .sequencer .ticks + 1)) _ _ (λ t h. absurd (never h)) (λ t h. absurd (never (rw e at h)))
+  ticked-sel Answered x e u = λ h. absurd (never (rw e at h))
+
+  -- while it arbitrates its ticks grow by one, from 0 where it begins
+  ticked-arbitrating : (p : Phase) (x : Sequenced) → x .sequencer .phase ≡ p → (tickIn p before n x) .sequencer .phase ≡ Arbitrating → (tickIn p before n x) .sequencer .ticks ≡ cond (isPhase Arbitrating p) (x .sequencer .ticks + 1) 0
+  unfolding tickIn waitingFor arbitratingFor clearingFor selectingFor answeringFor arbitrates selects timesOut reselected waited entered selingoCleared selingoRaised seltoRaised seldiRaised isPhase phaseNumber
+  ticked-arbitrating Idle x e = λ h. cc
+  ticked-arbitrating Waiting x e =
+      cond-case (λ (y : Sequenced). y .sequencer .phase ≡ Arbitrating → y .sequencer .ticks ≡ 0)
+      (leb busFreeDelay (cond (leb 8 before && not (bsySeen n || selSeen n)) (x .sequencer .ticks + 1) 0)) _ _
+      (λ t h. refl) (λ t h. cc)
+  ticked-arbitrating Arbitrating x e = go (leb arbitrationDelay (x .sequencer .ticks + 1)) (higherId n)
+    where
+      go : (b c : Bool) → (cond b (entered (cond c Waiting Clearing) x) (waited (x .sequencer .ticks + 1) x)) .sequencer .phase ≡ Arbitrating → (cond b (entered (cond c Waiting Clearing) x) (waited (x .sequencer .ticks + 1) x)) .sequencer .ticks ≡ x .sequencer .ticks + 1
+      go true true h = cc
+      go true false h = cc
+      go false c h = refl
+  ticked-arbitrating Clearing x e =
+      cond-case (λ (y : Sequenced). y .sequencer .phase ≡ Arbitrating → y .sequencer .ticks ≡ 0) (leb clearingDelay (x .sequencer .ticks + 1)) _ _
+      (λ t h. refl) (λ t h. cc)
+  ticked-arbitrating Selecting x e =
+      cond-case (λ (y : Sequenced). y .sequencer .phase ≡ Arbitrating → y .sequencer .ticks ≡ 0)
+      (leb (timeout (n .registers)) (cond (n .registers .sxfrctl1 .enstimer) (x .sequencer .ticks + 1) 0)) _ _ (λ t h. refl) (λ t h. cc)
+  ticked-arbitrating Holding x e = λ h. cc
+  ticked-arbitrating Answering x e =
+      cond-case (λ (y : Sequenced). y .sequencer .phase ≡ Arbitrating → y .sequencer .ticks ≡ 0) (leb settleDelay (x .sequencer .ticks + 1)) _ _
+      (λ t h. refl) (λ t h. cc)
+  ticked-arbitrating Answered x e = λ h. cc
+
+-- a tick leaves the lines and the IDs
+is-tick : (e : Event) → ltb 0 (ticksOf e) ≡ true → (k : ℕ) × (e ≡ Ticks (suc k))
+unfolding ticksOf
+is-tick PowerReset h = absurd (never h)
+is-tick (Write offset value) h = absurd (never h)
+is-tick (Read offset) h = absurd (never h)
+is-tick (WordWrite word) h = absurd (never h)
+is-tick WordRead h = absurd (never h)
+is-tick (Drive lines) h = absurd (never h)
+is-tick (Ticks zero) h = absurd (never h)
+is-tick (Ticks (suc k)) h = (k, refl)
+
+ticks-leave : (s : State) (k : ℕ) → higherId (handed s (Ticks k)) ≡ higherId s
+unfolding higherId afterA linesAfter registersA writes
+ticks-leave s k = ap (λ (l : Left). ltb 0 (l .lines .byte / 2 ^ (l .scsiid .oid + 1))) (handed-left s (Ticks k))
+
+-- before the event it arbitrated, 47 ticks or more; the event is a tick; others drive no data bit above OID
+pub record Arbitrated (s : State) (e : Event) : Type 0 where
+  pub tick : (k : ℕ) × (e ≡ Ticks (suc k))
+  pub phase : s .sequencer .phase ≡ Arbitrating
+  pub ticks : 47 ≤ s .sequencer .ticks
+  pub highest : higherId s ≡ false
+
+sel-drives : (p : Phase) → phaseSel p ≡ true → drives p ≡ true
+sel-drives p h = go (phaseBsy p) (phaseSel p) (phaseDrives p) h
+  where
+    go : (a b c : Bool) → b ≡ true → ((a || b) || c) ≡ true
+    go true b c h = refl
+    go false true c h = refl
+    go false false c h = absurd (never h)
+
+module _ (s : State) (e : Event) where
+  -- what drives a line after the event is what its tick left, or what was before
+  driving-is : (p : Phase) → drives p ≡ true → (afterD s e) .sequencer .phase ≡ p → (afterD s e) .sequencer ≡ (ticked s e) .sequencer
+  unfolding phaseBsy phaseSel phaseDrives
+  driving-is p d h = go (resets s e) refl
+    where
+      go : (b : Bool) → resets s e ≡ b → (afterD s e) .sequencer ≡ (ticked s e) .sequencer
+      go true r = absurd (never (rw (sym h ∙ idle-under-reset s e (rst-after s e ∙ r)) at d))
+      go false r =
+          no-reset s e r
+          ∙ ap (λ (x : Sequenced). x .sequencer)
+          (resolved-still (handed s e) (ticked s e) (ap (λ (q : Sequencer). drives (q .phase)) (sym (no-reset s e r)) ∙ rw h d))
+
+  unsel : phaseSel (s .sequencer .phase) ≡ false → phaseSel (start s e .sequencer .phase) ≡ false
+  unfolding afterA sequencerA phaseSel
+  unsel u =
+      ap phaseSel (start-phase s e)
+      ∙ cond-case (λ (p : Phase). phaseSel p ≡ false) (givesUp (registersA (s .registers) e) (s .sequencer) e) Idle (s .sequencer .phase) (λ g. refl) (λ g. u)
+
+  -- SEL IS DRIVEN ONLY AFTER 48 TICKS OF ARBITRATION at whose last tick others drive no higher ID
+  pub sel-after-arbitration : phaseSel (s .sequencer .phase) ≡ false → phaseSel ((afterD s e) .sequencer .phase) ≡ true → Arbitrated s e
+  unfolding isPhase phaseNumber
+  sel-after-arbitration u h =
+      go (tick s e) refl
+      (ap (λ (q : Sequencer). phaseSel (q .phase)) (sym (driving-is ((afterD s e) .sequencer .phase) (sel-drives ((afterD s e) .sequencer .phase) h) refl)) ∙ h)
+    where
+      n : State
+      n = handed s e
+
+      x : Sequenced
+      x = start s e
+
+      won : tick s e ≡ true → Won n (x .sequencer .phase) (x .sequencer .ticks) → Arbitrated s e
+      won t w = record { tick = is-tick e t; phase = phase; ticks = ticks; highest = highest }
+        where
+          phase : s .sequencer .phase ≡ Arbitrating
+          phase = left-unidle s e Arbitrating refl (sym (start-phase s e) ∙ w .phase)
+
+          same : x .sequencer .ticks ≡ s .sequencer .ticks
+          same = start-ticks s e ∙ left-ticks s e (rw phase)
+
+          ticks : 47 ≤ s .sequencer .ticks
+          ticks = omega (arith, leb-true arbitrationDelay (x .sequencer .ticks + 1) (w .ticks), same)
+
+          highest : higherId s ≡ false
+          highest =
+              sym (ticks-leave s (suc (is-tick e t .0))) ∙ sym (ap (λ (f : Event). higherId (handed s f)) (is-tick e t .1)) ∙ w .highest
+
+      go : (b : Bool) → tick s e ≡ b → phaseSel ((cond b (tickIn (x .sequencer .phase) (s .quiet) n x) x) .sequencer .phase) ≡ true → Arbitrated s e
+      go true t g = won t (ticked-sel n (s .quiet) (x .sequencer .phase) x refl (unsel u) g)
+      go false t g = absurd (never (sym (unsel u) ∙ g))
+
+  left-tick : tick s e ≡ true → left s e .phase ≡ s .sequencer .phase
+  unfolding afterA sequencerA givesUp writes
+  left-tick t = ap (λ (f : Event). left s f .phase) (is-tick e t .1)
+
+  left-tick-ticks : tick s e ≡ true → left s e .ticks ≡ s .sequencer .ticks
+  unfolding afterA sequencerA givesUp writes
+  left-tick-ticks t = ap (λ (f : Event). left s f .ticks) (is-tick e t .1)
+
+  -- THE TICKS OF AN ARBITRATION: 0 where it begins, then one more at each tick
+  pub arbitrating-counts : (afterD s e) .sequencer .phase ≡ Arbitrating → (afterD s e) .sequencer .ticks ≡ cond (isPhase Arbitrating (s .sequencer .phase)) (s .sequencer .ticks + one (tick s e)) 0
+  unfolding isPhase phaseNumber phaseBsy phaseSel phaseDrives
+  arbitrating-counts h = ap (λ (q : Sequencer). q .ticks) d ∙ go (tick s e) refl (ap (λ (q : Sequencer). q .phase) (sym d) ∙ h)
+    where
+      n : State
+      n = handed s e
+
+      x : Sequenced
+      x = start s e
+
+      d : (afterD s e) .sequencer ≡ (ticked s e) .sequencer
+      d = driving-is Arbitrating refl h
+
+      go : (b : Bool) → tick s e ≡ b → (cond b (tickIn (x .sequencer .phase) (s .quiet) n x) x) .sequencer .phase ≡ Arbitrating → (cond b (tickIn (x .sequencer .phase) (s .quiet) n x) x) .sequencer .ticks ≡ cond (isPhase Arbitrating (s .sequencer .phase)) (s .sequencer .ticks + one b) 0
+      go true t g =
+          ticked-arbitrating n (s .quiet) (x .sequencer .phase) x refl g
+          ∙ (λ i. cond (isPhase Arbitrating ((start-phase s e ∙ left-tick t) i)) ((start-ticks s e ∙ left-tick-ticks t) i + 1) 0)
+      go false t g =
+          let p : s .sequencer .phase ≡ Arbitrating = left-unidle s e Arbitrating refl (sym (start-phase s e) ∙ g) in
+          start-ticks s e ∙ left-ticks s e (rw p) ∙ rw p (omega arith)
