@@ -13,3 +13,4 @@ pub mod Counting
 pub mod KeptParity
 pub mod Packing
 pub mod Selection
+pub mod Timeout

@@ -1,14 +1,18 @@
 -- R-1, "What a reader asks" of the sequencer: over any state and any event.
 use mathlib.Core.Path.{_≡_, refl, ap, ap₂, sym, subst, _∙_}
 use mathlib.Core.Bool.{Bool, true, false, not, _&&_, _||_, cond}
-use mathlib.Core.List.{[], _∷_}
+use mathlib.Core.List.{List, [], _∷_}
 use Prim.Native.Nat.{ℕ, zero, suc, _+_, _/_, _^_, _≤_}
 use native.Mathlib.Omega.{arith}
 use lib.Dec.{T, leb, ltb, eqb→eq}
 use lib.ListN.{getD}
 use borrow.Author.Tests.{leb-true}
 use Rattle.rules.specs.Numbers.{one}
-use Rattle.rules.specs.State.{State}
+use Rattle.rules.specs.State.{State, powerReset}
+use Rattle.rules.specs.Records.{decode}
+use Rattle.rules.specs.Codes.{accessCode, isDone}
+use Rattle.rules.specs.Answers.{Stepped}
+use Rattle.rules.specs.Step.{ended, done, access, singleTicks, ticksTaken, stepEvent, stepDecoded, step, after}
 use Rattle.rules.specs.Changed.{withQuiet}
 use Rattle.rules.specs.Seen.{phaseNumber, isPhase, phaseBsy, phaseSel, phaseDrives, rstSeen, bsySeen, selSeen}
 use Rattle.rules.specs.Events.{writes, ticksOf, linesAfter}
@@ -27,6 +31,8 @@ use Rattle.rules.specs.declared.chip.Phase.the-variants.{Idle, Waiting, 
 use Rattle.rules.specs.declared.chip.Selection.{Selection}
 use Rattle.rules.specs.declared.chip.Sequencer.{Sequencer}
 use Rattle.rules.specs.declared.records.Lines.{Lines}
+use Rattle.rules.specs.declared.records.Decoded.{Decoded}
+use Rattle.rules.specs.declared.records.Decoded.the-variants.{Well, Ill}
 use Rattle.rules.specs.declared.records.Event.{Event}
 use Rattle.rules.specs.declared.records.Event.the-variants.{PowerReset, Write, Read, WordWrite, WordRead, Drive, Ticks}
 use Rattle.rules.proofs.Logic.{never, left-true, right-true, cond-case}
@@ -222,6 +228,15 @@ pub record Silent (p : Phase) : Type 0 where
   pub bsy : phaseBsy p ≡ false
   pub sel : phaseSel p ≡ false
   pub drives : phaseDrives p ≡ false
+
+-- idle, as RST leaves it, and waiting drive nothing
+pub idle-silent : Silent Idle
+unfolding phaseBsy phaseSel phaseDrives
+idle-silent = record { bsy = refl; sel = refl; drives = refl }
+
+pub waiting-silent : Silent Waiting
+unfolding phaseBsy phaseSel phaseDrives
+waiting-silent = record { bsy = refl; sel = refl; drives = refl }
 
 -- "IN EVERY EVENT, TICKS OR NOT"
 
@@ -817,6 +832,9 @@ module _ (s : State) (e : Event) where
       ap (λ (q : Sequencer). q .phase) (under-reset (sym (rst-after s e) ∙ h))
       ∙ cond-case (λ (q : Sequencer). q .phase ≡ Idle) (isPhase Idle (start .sequencer .phase)) (start .sequencer) _ (λ i. is-phase Idle (start .sequencer .phase) i) (λ i. refl)
 
+  pub silent-under-reset : rstSeen (afterD s e) ≡ true → Silent ((afterD s e) .sequencer .phase)
+  silent-under-reset h = subst Silent (sym (idle-under-reset h)) idle-silent
+
   -- SELINGO falls here
   pub data Falls : Type 0 where
     at-reset : rstSeen (afterD s e) ≡ true → Falls
@@ -873,7 +891,7 @@ module _ (s : State) (e : Event) where
 
 -- NOTHING IS DRIVEN
 
-pub silent : (p : Phase) → drives p ≡ false → Silent p
+silent : (p : Phase) → drives p ≡ false → Silent p
 silent p = go (phaseBsy p) (phaseSel p) (phaseDrives p) refl refl refl
   where
     go : (a b c : Bool) → phaseBsy p ≡ a → phaseSel p ≡ b → phaseDrives p ≡ c → ((a || b) || c) ≡ false → Silent p
@@ -1011,15 +1029,6 @@ module _ (s : State) (e : Event) where
       go false r =
           ap (λ (q : Sequencer). drives (q .phase)) (no-reset s e r)
           ∙ lost-ticked n (tick s e) (s .quiet) (sequencedOf n) phase lost-there
-
--- idle, as RST leaves it, and waiting drive nothing
-pub idle-silent : Silent Idle
-unfolding phaseBsy phaseSel phaseDrives
-idle-silent = record { bsy = refl; sel = refl; drives = refl }
-
-pub waiting-silent : Silent Waiting
-unfolding phaseBsy phaseSel phaseDrives
-waiting-silent = record { bsy = refl; sel = refl; drives = refl }
 
 -- SEL AFTER ARBITRATION
 
@@ -1190,3 +1199,57 @@ module _ (s : State) (e : Event) where
       go false t g =
           let p : s .sequencer .phase ≡ Arbitrating = left-unidle s e Arbitrating refl (sym (start-phase s e) ∙ g) in
           start-ticks s e ∙ left-ticks s e (rw p) ∙ rw p (omega arith)
+
+-- AFTER ANY RECORDS: what power reset and every event keep
+module _ (P : State → Type 0) (reset : P powerReset) (kept : (s : State) (e : Event) → P s → P (afterD s e)) where
+  access-keeps : (s : State) (e : Event) → P s → P ((access s e) .state)
+  unfolding access done ended
+  access-keeps s e h =
+      cond-case (λ (r : Stepped). P (r .state)) (isDone (accessCode s e)) _ _ (λ d. kept s e h) (λ d. h)
+
+  ticks-keep : (n : ℕ) (s : State) → P s → P ((singleTicks n s) .state)
+  unfolding singleTicks ended
+  ticks-keep zero s h = h
+  ticks-keep (suc n) s h = ticks-keep n ((access s (Ticks 1)) .state) (access-keeps s (Ticks 1) h)
+
+  taken-keep : (n : ℕ) (s : State) → P s → P ((ticksTaken n s) .state)
+  unfolding ticksTaken
+  taken-keep zero s h = access-keeps s (Ticks 0) h
+  taken-keep (suc n) s h = ticks-keep (suc n) s h
+
+  event-keeps : (e : Event) (s : State) → P s → P ((stepEvent s e) .state)
+  unfolding stepEvent ended
+  event-keeps PowerReset s h = reset
+  event-keeps (Write offset value) s h = access-keeps s (Write offset value) h
+  event-keeps (Read offset) s h = access-keeps s (Read offset) h
+  event-keeps (WordWrite word) s h = access-keeps s (WordWrite word) h
+  event-keeps WordRead s h = access-keeps s WordRead h
+  event-keeps (Drive lines) s h = access-keeps s (Drive lines) h
+  event-keeps (Ticks n) s h = taken-keep n s h
+
+  step-keeps : (s : State) (bytes : List ℕ) → P s → P ((step s bytes) .state)
+  unfolding step stepDecoded ended
+  step-keeps s bytes h = go (decode bytes)
+    where
+      go : (d : Decoded) → P ((stepDecoded s d) .state)
+      go (Well e) = event-keeps e s h
+      go Ill = h
+
+  pub records-keep : (records : List (List ℕ)) (s : State) → P s → P (after s records)
+  records-keep [] s h = h
+  records-keep (bytes ∷ more) s h = records-keep more ((step s bytes) .state) (step-keeps s bytes h)
+
+-- from power reset, whatever the records: with RST seen nothing is driven by the sequencer, and only SELDI is noted
+pub always-silent-under-reset : (records : List (List ℕ)) → rstSeen (after powerReset records) ≡ true → Silent ((after powerReset records) .sequencer .phase)
+always-silent-under-reset records =
+    records-keep (λ s. rstSeen s ≡ true → Silent (s .sequencer .phase)) (λ h. at-first) (λ s e h. silent-under-reset s e) records powerReset (λ h. at-first)
+  where
+    at-first : Silent (powerReset .sequencer .phase)
+    at-first = unfold powerReset in idle-silent
+
+pub always-noted-seldi : (records : List (List ℕ)) → (after powerReset records) .sequencer .noted ≡ true → (after powerReset records) .sequencer .status .seldi ≡ true
+always-noted-seldi records =
+    records-keep (λ s. s .sequencer .noted ≡ true → s .sequencer .status .seldi ≡ true) at-first noted-keeps records powerReset at-first
+  where
+    at-first : powerReset .sequencer .noted ≡ true → powerReset .sequencer .status .seldi ≡ true
+    at-first = unfold powerReset in λ h. h
