@@ -14,3 +14,4 @@ pub mod KeptParity
 pub mod Packing
 pub mod Selection
 pub mod Timeout
+pub mod Selections

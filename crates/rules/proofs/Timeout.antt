@@ -1,11 +1,12 @@
 -- R-1: "a selection that nobody answers, with ENSTIMER set and STIMESEL, RST and 340h left alone, ends by SELTO at exactly its limit".
 use mathlib.Core.Path.{_≡_, refl, ap, sym, subst, _∙_}
 use mathlib.Core.Bool.{Bool, true, false, not, _&&_, _||_, cond, and-not-self, and-false, or-true}
-use Prim.Native.Nat.{ℕ, zero, suc, _+_, _≤_, _<_}
-use native.Mathlib.Nat.{add-zero}
+use Prim.Native.Nat.{ℕ, zero, suc, _+_, _*_, _≤_, _<_}
+use native.Mathlib.Nat.{add-zero, zero-add}
 use native.Mathlib.Omega.{arith}
 use lib.Dec.{leb, ltb}
-use lib.ListN.{length}
+use mathlib.Core.List.{[], _∷_}
+use lib.ListN.{length, getD}
 use borrow.Author.Tests.{le-leb, lt-leb, le-ltb}
 use Rattle.rules.specs.Numbers.{one, bit}
 use Rattle.rules.specs.State.{State}
@@ -400,3 +401,35 @@ module _ (s : State) (u : Unanswered s) where
   ends (suc m) k t i h l =
       ends m (k + 1) ((access t (Ticks 1)) .state) (one-more t i)
       (ap standingOf (tick-done t (i .transfer .host)) ∙ spends-one k t h (omega arith)) (omega arith)
+
+-- A SELECTION THAT NOBODY ANSWERS ENDS BY SELTO AT EXACTLY ITS LIMIT: an event of fewer ticks changes nothing of the sequencer, the
+-- registers and the lines but the ticks spent; an event of just those ticks ends it
+pub record EndsAtLimit (s : State) : Type 0 where
+  pub before : (n : ℕ) → 0 < n → n < timeout (s .registers) → Spent s n ((stepEvent s (Ticks n)) .state)
+  pub at : (n : ℕ) → n ≡ timeout (s .registers) → TimedOut s ((stepEvent s (Ticks n)) .state)
+
+-- the shortest limit
+timeout-most : (r : Registers) → 640000 ≤ timeout r
+unfolding timeout
+timeout-most r = go (r .sxfrctl1 .stimesel1) (r .sxfrctl1 .stimesel0)
+  where
+    go : (a b : Bool) → 640000 ≤ getD (5120000 ∷ 2560000 ∷ 1280000 ∷ 640000 ∷ []) (one a * 2 + one b) 0
+    go true true = omega arith
+    go true false = omega arith
+    go false true = omega arith
+    go false false = omega arith
+
+pub unanswered-ends : (s : State) → InRange s → Unanswered s → s .sequencer .ticks ≡ 0 → EndsAtLimit s
+unfolding stepEvent ticksTaken
+unanswered-ends s i u z = record { before = before; at = at }
+  where
+    fresh : Spent s 0 s
+    fresh j = record { sequencer = inTicks (z j) (s .sequencer); registers = s .registers; lines = s .lines }
+
+    before : (n : ℕ) → 0 < n → n < timeout (s .registers) → Spent s n ((ticksTaken n s) .state)
+    before zero p l = absurd (omega arith)
+    before (suc m) p l = rw (zero-add (suc m)) at (spends s u (suc m) 0 s i fresh (omega arith))
+
+    at : (n : ℕ) → n ≡ timeout (s .registers) → TimedOut s ((ticksTaken n s) .state)
+    at zero e = absurd (omega (arith, timeout-most (s .registers)))
+    at (suc m) e = ends s u m 0 s i fresh (omega arith)
