@@ -1,10 +1,19 @@
 -- R-1: selections and a reselection from power reset, row by row.
 use mathlib.Core.Path.{_≡_, refl}
-use mathlib.Core.Bool.{Bool, true, false, not, _&&_, _||_, cond}
+use mathlib.Core.Bool.{true, false}
 use mathlib.Core.List.{List, [], _∷_}
 use Prim.Native.Nat.{ℕ}
-use Rattle.rules.specs.Examples.{Row, row, misses}
+use Rattle.rules.specs.State.{State, powerReset}
+use Rattle.rules.specs.Records.{linesOf}
+use Rattle.rules.specs.StepD.{afterD}
+use Rattle.rules.specs.Step.{after}
+use Rattle.rules.specs.Examples.{Row, row, bytesOf, misses}
+use Rattle.rules.specs.declared.records.Event.{Event}
+use Rattle.rules.specs.declared.records.Event.the-variants.{Write, Drive, Ticks}
 use Rattle.rules.proofs.Computes.{computes}
+use Rattle.rules.proofs.Ranges.{always-in-range}
+use Rattle.rules.proofs.Selection.{Silent, Connects, connectsNow, Falls, Arbitrated, silent-under-reset, seldo-comes, seldi-falls, noted-rises, selingo-falls, lost-drives-nothing, sel-after-arbitration, arbitrating-counts, always-silent-under-reset, always-noted-seldi}
+use Rattle.rules.proofs.Timeout.{EndsAtLimit, unanswered-ends}
 
 -- a start-up: the chip is 7, the target 3
 abbrev startUp : List Row
@@ -78,3 +87,83 @@ reselection =
 pub selections-computed : misses (startUp ∷ lostArbitration ∷ forestalledBySel ∷ reselection ∷ []) ≡ []
 unfolding computes
 selections-computed = refl
+
+-- A CASE OF EACH THEOREM, in a state reached from power reset
+
+abbrev recordsOf : List ℕ → List (List ℕ)
+recordsOf [] = []
+recordsOf (e ∷ es) = bytesOf 4 e ∷ recordsOf es
+
+-- 345h with the IDs 5 and 3, 342h with ENSTIMER and the shortest timeout, a free bus, ENSELO, 16 ticks: it arbitrates
+abbrev arbitratingRecords : List ℕ → List (List ℕ)
+arbitratingRecords more =
+    recordsOf (0x25000053 ∷ 0x2200001C ∷ 0xC0000008 ∷ 0x20000040 ∷ 0xC0000010 ∷ more)
+
+abbrev arbitrating : List ℕ → State
+arbitrating more = after powerReset (arbitratingRecords more)
+
+-- 48 and 24 ticks more: it selects
+abbrev selectingRecords : List (List ℕ)
+selectingRecords = arbitratingRecords (0xC0000030 ∷ 0xC0000018 ∷ [])
+
+abbrev selecting : State
+selecting = after powerReset selectingRecords
+
+-- without the timer
+abbrev untimed : State
+untimed =
+    after powerReset (recordsOf (0x25000053 ∷ 0xC0000008 ∷ 0x20000040 ∷ 0xC0000010 ∷ 0xC0000030 ∷ 0xC0000018 ∷ []))
+
+-- reselected by 3, where the chip is 7, and connected
+abbrev reselectedRecords : List ℕ → List (List ℕ)
+reselectedRecords more = recordsOf (0x25000073 ∷ 0x20000010 ∷ 0xA0022048 ∷ 0xC0000008 ∷ 0xA0022044 ∷ more)
+
+abbrev reselected : List ℕ → State
+reselected more = after powerReset (reselectedRecords more)
+
+-- RST while it arbitrates
+pub reset-case : Silent ((afterD (arbitrating []) (Drive (linesOf 0x100))) .sequencer .phase)
+unfolding computes
+reset-case = silent-under-reset (arbitrating []) (Drive (linesOf 0x100)) refl
+
+-- the 48th tick
+pub sel-case : Arbitrated (arbitrating (0xC000002F ∷ [])) (Ticks 1)
+unfolding computes
+sel-case = sel-after-arbitration (arbitrating (0xC000002F ∷ [])) (Ticks 1) refl refl
+
+pub counts-case : (afterD (arbitrating (0xC000002E ∷ [])) (Ticks 1)) .sequencer .ticks ≡ 47
+unfolding computes
+counts-case = arbitrating-counts (arbitrating (0xC000002E ∷ [])) (Ticks 1) refl
+
+-- the 48th tick with the ID 6 of others, and SEL of others before it
+pub lost-case : Silent ((afterD (arbitrating (0xA0010000 ∷ 0xC000002F ∷ [])) (Ticks 1)) .sequencer .phase)
+unfolding computes
+lost-case = lost-drives-nothing (arbitrating (0xA0010000 ∷ 0xC000002F ∷ [])) (Ticks 1) refl refl
+
+pub forestalled-case : Silent ((afterD (arbitrating []) (Drive (linesOf 0x8))) .sequencer .phase)
+unfolding computes
+forestalled-case = lost-drives-nothing (arbitrating []) (Drive (linesOf 0x8)) refl refl
+
+-- BSY of the target
+pub seldo-case : Connects selecting (Drive (linesOf 0x4))
+unfolding computes
+seldo-case = seldo-comes selecting (Drive (linesOf 0x4)) refl refl
+
+-- SELINGO falls at SELDO, at RST, and where the processor gives up
+pub selingo-seldo-case : Falls selecting (Drive (linesOf 0x4))
+unfolding computes
+selingo-seldo-case = selingo-falls selecting (Drive (linesOf 0x4)) refl refl
+
+pub selingo-reset-case : Falls selecting (Drive (linesOf 0x100))
+unfolding computes
+selingo-reset-case = selingo-falls selecting (Drive (linesOf 0x100)) refl refl
+
+pub selingo-given-up-case : Falls untimed (Write 0 0)
+unfolding computes
+selingo-given-up-case = selingo-falls untimed (Write 0 0) refl refl
+
+-- nobody answers
+pub timeout-case : EndsAtLimit selecting
+unfolding computes
+timeout-case =
+    unanswered-ends selecting (always-in-range selectingRecords) (record { phase = refl; timer = refl; bsy = refl; rst = refl }) refl
