@@ -1,20 +1,20 @@
 -- R-1, "What a reader asks" of the sequencer: over any state and any event.
 use mathlib.Core.Path.{_≡_, refl, ap, ap₂, sym, subst, _∙_}
-use mathlib.Core.Bool.{Bool, true, false, not, _&&_, _||_, cond}
+use mathlib.Core.Bool.{Bool, true, false, not, _&&_, _||_, cond, or-false}
 use mathlib.Core.List.{List, [], _∷_}
 use Prim.Native.Nat.{ℕ, zero, suc, _+_, _/_, _^_, _≤_}
 use native.Mathlib.Omega.{arith}
 use lib.Dec.{T, leb, ltb, eqb→eq}
 use lib.ListN.{getD}
 use borrow.Author.Tests.{leb-true}
-use Rattle.rules.specs.Numbers.{one}
+use Rattle.rules.specs.Numbers.{one, byteOf}
 use Rattle.rules.specs.State.{State, powerReset}
 use Rattle.rules.specs.Records.{decode}
 use Rattle.rules.specs.Codes.{accessCode, isDone}
-use Rattle.rules.specs.Answers.{Stepped}
+use Rattle.rules.specs.Answers.{Stepped, controlDriven}
 use Rattle.rules.specs.Step.{ended, done, access, singleTicks, ticksTaken, stepEvent, stepDecoded, step, after}
 use Rattle.rules.specs.Changed.{withQuiet}
-use Rattle.rules.specs.Seen.{phaseNumber, isPhase, phaseBsy, phaseSel, phaseDrives, rstSeen, bsySeen, selSeen}
+use Rattle.rules.specs.Seen.{phaseNumber, isPhase, phaseBsy, phaseSel, phaseDrives, phaseData, rstSeen, bsySeen, selSeen, ackDriven, byteDriven, dataDriven}
 use Rattle.rules.specs.Events.{writes, ticksOf, linesAfter}
 use Rattle.rules.specs.Sequencer.{busFreeDelay, arbitrationDelay, clearingDelay, settleDelay, timeout, askedBy, selectionAsked, called, higherId, Sequenced, sequencedOf, waited, entered, selectionWith, selingoCleared, selingoRaised, seltoRaised, seldoRaised, seldiRaised, selectionFreed, silenced, arbitrates, waitingFor, arbitratingFor, selects, clearingFor, timesOut, selectingFor, reselected, answeringFor, tickIn, uncalled, letGo, forestalled, connects, selected, begun, withdrawn, answers, resolved, sequenced}
 use Rattle.rules.specs.StepA.{clears, clearsLatch, registersA, givesUp, selectionA, notedA, sequencerA, afterA}
@@ -237,6 +237,25 @@ idle-silent = record { bsy = refl; sel = refl; drives = refl }
 pub waiting-silent : Silent Waiting
 unfolding phaseBsy phaseSel phaseDrives
 waiting-silent = record { bsy = refl; sel = refl; drives = refl }
+
+-- so the answer tells of 343h, of ACK and of document 01's data alone
+pub record Undriven (s : State) : Type 0 where
+  pub control : controlDriven s ≡ byteOf false false false (s .registers .scsisig .atno) (s .registers .scsisig .selo) (s .registers .scsisig .bsyo) false (ackDriven s)
+  pub driven : dataDriven s ≡ byteDriven s
+
+pub silent-answers : (s : State) → Silent (s .sequencer .phase) → Undriven s
+unfolding controlDriven dataDriven
+silent-answers s q =
+    record {
+      control =
+          (λ i.
+          byteOf false false false (s .registers .scsisig .atno) (s .registers .scsisig .selo || q .sel i)
+          (s .registers .scsisig .bsyo || q .bsy i) false (ackDriven s))
+          ∙ (λ i.
+          byteOf false false false (s .registers .scsisig .atno) (or-false (s .registers .scsisig .selo) i)
+          (or-false (s .registers .scsisig .bsyo) i) false (ackDriven s));
+      driven = ap (λ (b : Bool). cond b (phaseData (s .sequencer .phase) (s .registers)) (byteDriven s)) (q .drives);
+    }
 
 -- "IN EVERY EVENT, TICKS OR NOT"
 
@@ -678,9 +697,12 @@ module _ (s : State) (e : Event) where
 
   -- SELDI, AND NOTED
 
-  -- SELDI, ONCE RISEN, FALLS ONLY (power reset apart) by a write of 34Bh bit 5 while the quiet ticks stand at 8, or at bus free where
-  -- it is noted or that bit is written now
-  pub seldi-falls : s .sequencer .status .seldi ≡ true → (afterD s e) .sequencer .status .seldi ≡ false → ((clearsLatch e 5 && leb 8 (s .quiet)) || (free s e && (s .sequencer .noted || clearsLatch e 5))) ≡ true
+  -- 34Bh bit 5 is written while the quiet ticks stand at 8; or the bus comes free, and it was noted or that bit is written now
+  abbrev pub seldiEnds : Bool
+  seldiEnds = (clearsLatch e 5 && leb 8 (s .quiet)) || (free s e && (s .sequencer .noted || clearsLatch e 5))
+
+  -- SELDI, ONCE RISEN, FALLS ONLY so, power reset apart
+  pub seldi-falls : s .sequencer .status .seldi ≡ true → (afterD s e) .sequencer .status .seldi ≡ false → seldiEnds ≡ true
   unfolding afterA sequencerA notedA
   seldi-falls h g =
       fallen answersNow (free s e) (s .sequencer .noted) (clearsLatch e 5) (leb 8 (s .quiet)) (s .sequencer .status .seldi) h

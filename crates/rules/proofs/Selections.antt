@@ -1,10 +1,11 @@
 -- R-1: selections and a reselection from power reset, row by row.
 use mathlib.Core.Path.{_≡_, refl}
-use mathlib.Core.Bool.{true, false}
+use mathlib.Core.Bool.{true, false, _&&_}
 use mathlib.Core.List.{List, [], _∷_}
 use Prim.Native.Nat.{ℕ}
 use Rattle.rules.specs.State.{State, powerReset}
 use Rattle.rules.specs.Records.{linesOf}
+use Rattle.rules.specs.StepA.{clearsLatch}
 use Rattle.rules.specs.StepD.{afterD}
 use Rattle.rules.specs.Step.{after}
 use Rattle.rules.specs.Examples.{Row, row, bytesOf, misses}
@@ -12,7 +13,7 @@ use Rattle.rules.specs.declared.records.Event.{Event}
 use Rattle.rules.specs.declared.records.Event.the-variants.{Write, Drive, Ticks}
 use Rattle.rules.proofs.Computes.{computes}
 use Rattle.rules.proofs.Ranges.{always-in-range}
-use Rattle.rules.proofs.Selection.{Silent, Connects, connectsNow, Falls, Arbitrated, silent-under-reset, seldo-comes, seldi-falls, noted-rises, selingo-falls, lost-drives-nothing, sel-after-arbitration, arbitrating-counts, always-silent-under-reset, always-noted-seldi}
+use Rattle.rules.proofs.Selection.{Silent, Connects, Falls, Arbitrated, seldiEnds, silent-under-reset, seldo-comes, seldi-falls, noted-rises, selingo-falls, lost-drives-nothing, sel-after-arbitration, arbitrating-counts, always-silent-under-reset, always-noted-seldi}
 use Rattle.rules.proofs.Timeout.{EndsAtLimit, unanswered-ends}
 
 -- a start-up: the chip is 7, the target 3
@@ -161,6 +162,28 @@ selingo-reset-case = selingo-falls selecting (Drive (linesOf 0x100)) refl refl
 pub selingo-given-up-case : Falls untimed (Write 0 0)
 unfolding computes
 selingo-given-up-case = selingo-falls untimed (Write 0 0) refl refl
+
+-- 34Bh bit 5 noted, then bus free; and the bus free first
+pub noted-case : (clearsLatch (Write 0xB 0x20) 5 && (reselected []) .sequencer .status .seldi) ≡ true
+unfolding computes
+noted-case = noted-rises (reselected []) (Write 0xB 0x20) refl refl
+
+pub seldi-noted-case : seldiEnds (reselected (0x2B000020 ∷ 0xA0000000 ∷ 0xC0000007 ∷ [])) (Ticks 1) ≡ true
+unfolding computes
+seldi-noted-case = seldi-falls (reselected (0x2B000020 ∷ 0xA0000000 ∷ 0xC0000007 ∷ [])) (Ticks 1) refl refl
+
+pub seldi-free-case : seldiEnds (reselected (0xA0000000 ∷ 0xC0000008 ∷ [])) (Write 0xB 0x20) ≡ true
+unfolding computes
+seldi-free-case = seldi-falls (reselected (0xA0000000 ∷ 0xC0000008 ∷ [])) (Write 0xB 0x20) refl refl
+
+-- after any records: RST is seen, and SELDI is noted
+pub always-reset-case : Silent ((arbitrating (0xA0000100 ∷ [])) .sequencer .phase)
+unfolding computes
+always-reset-case = always-silent-under-reset (arbitratingRecords (0xA0000100 ∷ [])) refl
+
+pub always-noted-case : (reselected (0x2B000020 ∷ [])) .sequencer .status .seldi ≡ true
+unfolding computes
+always-noted-case = always-noted-seldi (reselectedRecords (0x2B000020 ∷ [])) refl
 
 -- nobody answers
 pub timeout-case : EndsAtLimit selecting
