@@ -20,10 +20,7 @@ use Rattle.rules.specs.Sequencer.{busFreeDelay, arbitrationDelay, cleari
 use Rattle.rules.specs.StepA.{clears, clearsLatch, registersA, givesUp, selectionA, notedA, sequencerA, afterA}
 use Rattle.rules.specs.StepB.{reqFalls, ackReleased, afterReqFalls, rstRises, busReset, afterRstRises, reqRises, reqRisen, afterReqRises, quietAfter, busFree, busFreed, afterQuietTicks, phaseChanges, phaseChanged, afterPhaseChanges, afterSequencer, firstFour, inOrder, afterB, atReq}
 use Rattle.rules.specs.StepD.{finished, afterD}
-use Rattle.rules.specs.declared.registers.Sxfrctl1.{Sxfrctl1}
 use Rattle.rules.specs.declared.registers.Scsiid.{Scsiid}
-use Rattle.rules.specs.declared.registers.Simode0.{Simode0}
-use Rattle.rules.specs.declared.registers.Simode1.{Simode1}
 use Rattle.rules.specs.declared.registers.Registers.{Registers}
 use Rattle.rules.specs.declared.map.Register.the-variants.{SCSISEQ}
 use Rattle.rules.specs.declared.chip.Phase.{Phase}
@@ -42,22 +39,14 @@ use Rattle.rules.proofs.Logic.{never, left-true, right-true, cond-case}
 -- what the steps of B before it leave of what it looks at
 record Left : Type 0 where
   lines : Lines
-  scsirsto : Bool
-  sxfrctl1 : Sxfrctl1
   scsiid : Scsiid
-  simode0 : Simode0
-  simode1 : Simode1
   sequencer : Sequencer
 
 abbrev leftOf : State → Left
 leftOf n =
     record {
       lines = n .lines;
-      scsirsto = n .registers .scsiseq .scsirsto;
-      sxfrctl1 = n .registers .sxfrctl1;
       scsiid = n .registers .scsiid;
-      simode0 = n .registers .simode0;
-      simode1 = n .registers .simode1;
       sequencer = n .sequencer;
     }
 
@@ -83,11 +72,7 @@ abbrev freed : Bool → Left → Left
 freed free l =
     record {
       lines = l .lines;
-      scsirsto = l .scsirsto;
-      sxfrctl1 = l .sxfrctl1;
       scsiid = l .scsiid;
-      simode0 = l .simode0;
-      simode1 = l .simode1;
       sequencer = cond free (selectionFreed (l .sequencer)) (l .sequencer);
     }
 
@@ -101,6 +86,16 @@ frees ticks n = go (busFree ticks n)
     go : (b : Bool) → leftOf (cond b (busFreed q) q) ≡ freed b (leftOf n)
     go true = refl
     go false = refl
+
+-- what is asked of the state after an event
+record Outcome : Type 0 where
+  sequencer : Sequencer
+  lines : Lines
+  rst : Bool
+  higher : Bool
+
+abbrev outcomeOf : State → Outcome
+outcomeOf n = record { sequencer = n .sequencer; lines = n .lines; rst = rstSeen n; higher = higherId n }
 
 module _ (s : State) (e : Event) where
   -- the state that the quiet ticks are handed, and that which the sequencer is handed
@@ -125,55 +120,29 @@ module _ (s : State) (e : Event) where
       (leaves-risen (leftOf (afterA s e)) s (atReq s e)
       (leaves-reset (leftOf (afterA s e)) s (afterReqFalls s (afterA s e)) (leaves-falls (leftOf (afterA s e)) s (afterA s e) refl)))
 
-  -- what the sequencer makes of it stands in the state after the event
-  pub after-is : sequencedOf (afterD s e) ≡ sequenced tick (s .quiet) handed
-  unfolding sequencedOf afterD finished afterB inOrder afterPhaseChanges phaseChanged afterSequencer
+  -- what the sequencer makes of it stands in the state after the event, with the lines that it was handed
+  after-is : outcomeOf (afterD s e) ≡ record { sequencer = (sequenced tick (s .quiet) handed) .sequencer; lines = handed .lines; rst = rstSeen handed; higher = higherId handed }
+  unfolding rstSeen higherId afterD finished afterB inOrder afterPhaseChanges phaseChanged afterSequencer
   after-is = go (phaseChanges s n)
     where
       n : State
       n = afterSequencer tick (s .quiet) handed
 
-      go : (b : Bool) → sequencedOf (cond b (phaseChanged n) n) ≡ sequenced tick (s .quiet) handed
+      go : (b : Bool) → outcomeOf (cond b (phaseChanged n) n) ≡ outcomeOf n
       go true = refl
       go false = refl
 
-  pub sequencer-is : (afterD s e) .sequencer ≡ (sequenced tick (s .quiet) handed) .sequencer
-  unfolding sequencedOf
-  sequencer-is = ap (λ (x : Sequenced). x .sequencer) after-is
+  sequencer-is : (afterD s e) .sequencer ≡ (sequenced tick (s .quiet) handed) .sequencer
+  sequencer-is = ap (λ (o : Outcome). o .sequencer) after-is
 
-  -- the lines and RST are those after the event
-  pub rst-after : rstSeen (afterD s e) ≡ rstSeen handed
-  unfolding rstSeen afterD finished afterB inOrder afterPhaseChanges phaseChanged afterSequencer
-  rst-after = go (phaseChanges s n)
-    where
-      n : State
-      n = afterSequencer tick (s .quiet) handed
-
-      go : (b : Bool) → rstSeen (cond b (phaseChanged n) n) ≡ rstSeen handed
-      go true = refl
-      go false = refl
+  rst-after : rstSeen (afterD s e) ≡ rstSeen handed
+  rst-after = ap (λ (o : Outcome). o .rst) after-is
 
   higher-after : higherId (afterD s e) ≡ higherId handed
-  unfolding higherId afterD finished afterB inOrder afterPhaseChanges phaseChanged afterSequencer
-  higher-after = go (phaseChanges s n)
-    where
-      n : State
-      n = afterSequencer tick (s .quiet) handed
-
-      go : (b : Bool) → higherId (cond b (phaseChanged n) n) ≡ higherId handed
-      go true = refl
-      go false = refl
+  higher-after = ap (λ (o : Outcome). o .higher) after-is
 
   lines-after : (afterD s e) .lines ≡ handed .lines
-  unfolding afterD finished afterB inOrder afterPhaseChanges phaseChanged afterSequencer
-  lines-after = go (phaseChanges s n)
-    where
-      n : State
-      n = afterSequencer tick (s .quiet) handed
-
-      go : (b : Bool) → (cond b (phaseChanged n) n) .lines ≡ handed .lines
-      go true = refl
-      go false = refl
+  lines-after = ap (λ (o : Outcome). o .lines) after-is
 
 -- PHASES
 

@@ -1,6 +1,6 @@
 -- R-1: selections and a reselection from power reset, row by row.
 use mathlib.Core.Path.{_≡_, refl}
-use mathlib.Core.Bool.{true, false, _&&_}
+use mathlib.Core.Bool.{true, _&&_}
 use mathlib.Core.List.{List, [], _∷_}
 use Prim.Native.Nat.{ℕ}
 use Rattle.rules.specs.State.{State, powerReset}
@@ -9,7 +9,6 @@ use Rattle.rules.specs.StepA.{clearsLatch}
 use Rattle.rules.specs.StepD.{afterD}
 use Rattle.rules.specs.Step.{after}
 use Rattle.rules.specs.Examples.{Row, row, bytesOf, misses}
-use Rattle.rules.specs.declared.records.Event.{Event}
 use Rattle.rules.specs.declared.records.Event.the-variants.{Write, Drive, Ticks}
 use Rattle.rules.proofs.Computes.{computes}
 use Rattle.rules.proofs.Ranges.{always-in-range}

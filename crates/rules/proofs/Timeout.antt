@@ -1,10 +1,10 @@
 -- R-1: "a selection that nobody answers, with ENSTIMER set and STIMESEL, RST and 340h left alone, ends by SELTO at exactly its limit".
 use mathlib.Core.Path.{_≡_, refl, ap, sym, subst, _∙_}
-use mathlib.Core.Bool.{Bool, true, false, not, _&&_, _||_, cond, and-not-self, and-false, or-true}
+use mathlib.Core.Bool.{Bool, true, false, not, _&&_, _||_, cond, and-not-self, or-true}
 use Prim.Native.Nat.{ℕ, zero, suc, _+_, _*_, _≤_, _<_}
 use native.Mathlib.Nat.{add-zero, zero-add}
 use native.Mathlib.Omega.{arith}
-use lib.Dec.{leb, ltb}
+use lib.Dec.{leb}
 use mathlib.Core.List.{[], _∷_}
 use lib.ListN.{length, getD}
 use borrow.Author.Tests.{le-leb, lt-leb, le-ltb}
@@ -12,25 +12,24 @@ use Rattle.rules.specs.Numbers.{one, bit}
 use Rattle.rules.specs.State.{State}
 use Rattle.rules.specs.Ranges.{InRange}
 use Rattle.rules.specs.Changed.{withQuiet}
-use Rattle.rules.specs.Seen.{phaseNumber, isPhase, phaseBsy, phaseSel, phaseDrives, rstSeen, bsySeen, selSeen}
+use Rattle.rules.specs.Seen.{phaseNumber, isPhase, phaseBsy, phaseSel, phaseDrives, rstSeen, selSeen}
 use Rattle.rules.specs.Events.{writes, ticksOf, linesAfter, offered, asked, portWrite, portRead}
 use Rattle.rules.specs.Codes.{absent, testValue, shut, noRoom, noBytes, accessCode}
 use Rattle.rules.specs.Step.{ended, done, access, singleTicks, ticksTaken, stepEvent}
-use Rattle.rules.specs.Sequencer.{timeout, called, Sequenced, sequencedOf, inTicks, inPhase, waited, entered, selectionWith, latchEnabled, seltoRaised, seldoRaised, timesOut, selectingFor, tickIn, uncalled, letGo, forestalled, connects, selected, begun, withdrawn, answers, resolved, sequenced}
+use Rattle.rules.specs.Sequencer.{timeout, called, Sequenced, sequencedOf, inTicks, inPhase, waited, entered, selectionWith, latchEnabled, seltoRaised, timesOut, selectingFor, tickIn, uncalled, letGo, forestalled, connects, selected, begun, withdrawn, answers, resolved, sequenced}
 use Rattle.rules.specs.StepA.{withAtn, clears, clearsLatch, registersA, givesUp, selectionA, notedA, selectionLatchesA, sequencerA, afterA}
-use Rattle.rules.specs.StepB.{reqFalls, afterReqFalls, rstRises, afterRstRises, reqRises, afterReqRises, quietAfter, busFree, busFreed, afterQuietTicks, phaseChanges, phaseChanged, afterPhaseChanges, registersWith, scsiseqWith, afterSequencer, firstFour, inOrder, afterB}
+use Rattle.rules.specs.StepB.{reqFalls, afterReqFalls, rstRises, afterRstRises, reqRises, afterReqRises, quietAfter, busFree, afterQuietTicks, phaseChanges, phaseChanged, afterPhaseChanges, registersWith, scsiseqWith, afterSequencer, firstFour, inOrder, afterB}
 use Rattle.rules.specs.StepD.{finished, afterD}
 use Rattle.rules.specs.declared.registers.Registers.{Registers}
 use Rattle.rules.specs.declared.chip.Phase.{Phase}
-use Rattle.rules.specs.declared.chip.Phase.the-variants.{Idle, Waiting, Arbitrating, Clearing, Selecting, Holding, Answering, Answered}
+use Rattle.rules.specs.declared.chip.Phase.the-variants.{Idle, Selecting, Holding, Answering}
 use Rattle.rules.specs.declared.chip.Selection.{Selection}
 use Rattle.rules.specs.declared.chip.Sequencer.{Sequencer}
 use Rattle.rules.specs.declared.records.Lines.{Lines}
-use Rattle.rules.specs.declared.records.Event.{Event}
 use Rattle.rules.specs.declared.records.Event.the-variants.{Ticks}
-use Rattle.rules.proofs.Logic.{never, cond-case}
+use Rattle.rules.proofs.Logic.{never}
 use Rattle.rules.proofs.Ranges.{single-in-range}
-use Rattle.rules.proofs.Selection.{drives, selecting, Changes, resolved-keeps, handed}
+use Rattle.rules.proofs.Selection.{Changes, resolved-keeps, handed}
 
 regrouped : (k m : ℕ) → k + suc m ≡ k + 1 + m
 regrouped k m = omega arith
