@@ -20,3 +20,6 @@ pub mod Counting
 pub mod KeptParity
 pub mod Witnesses
 pub mod Packing
+pub mod Selection
+pub mod Timeout
+pub mod Selections
