@@ -161,7 +161,7 @@ fn selection_of(v: u8) -> Selection
     }
 }
 
-fn selection_byte(k: Selection) -> u8
+pub fn selection_byte(k: Selection) -> u8
     ensures { λ r. ⌜ r ≡ selectionByte k ⌝ }
 {
     byte_of(
@@ -176,7 +176,7 @@ fn selection_byte(k: Selection) -> u8
     )
 }
 
-fn sequencer_byte(q: Sequencer) -> u8
+pub fn sequencer_byte(q: Sequencer) -> u8
     ensures { λ r. ⌜ r ≡ sequencerByte q ⌝ }
 {
     let p = q.phase;
