@@ -5,15 +5,15 @@ use mathlib.Core.List.{List, [], _++_}
 use native.Mathlib.Omega.{arith}
 use lib.ListN.{length, take, drop, length-append}
 use lib.Seq.{sets, length-sets, sets-eq, take-at, take-all, length-take-le, take-paste, length-paste}
-use Rattle.rules.specs.Chips.{view, chipOf, pathOf, registersView, pathView, stackView}
+use Rattle.rules.specs.Chips.{view, chipOf, pathOf, registersView, pathView, stackView, sequencerView}
 use Rattle.rules.specs.State.{State}
 use Rattle.rules.specs.Ranges.{Tidy, RegistersFit, RegistersBytes, Bytes, InBytes}
 use Rattle.rules.specs.declared.chip.Chip.{Chip}
 use Rattle.rules.proofs.Ranges.{bytes-take}
 use Rattle.laws.proofs.Chips.{tidy-registers, tidy-host, tidy-scsi}
 use Rattle.image.specs.Image.{imageOf}
-use Rattle.image.specs.Layout.{hostBytesPlace, imageSize, offsetPlace, scsiBytesPlace, scsiCountPlace, stackBytesPlace, statusPlace}
-use Rattle.chips.specs.HeadRuns.{registersBytes, flagsBytes, numbersBytes, countsBytes, Placed}
+use Rattle.image.specs.Layout.{hostBytesPlace, imageSize, offsetPlace, scsiBytesPlace, scsiCountPlace, sequencerPlace, stackBytesPlace, statusPlace}
+use Rattle.chips.specs.HeadRuns.{registersBytes, flagsBytes, numbersBytes, sequencerBytes, countsBytes, Placed}
 
 -- the first k bytes are in their places
 pub record Filled (m : List ℕ) (k : ℕ) (p : List ℕ) : Type 0 where
@@ -53,6 +53,7 @@ bytesOf c =
     registersBytes (c .registers)
     ++ flagsBytes (c .status) (c .latches) (c .lines)
     ++ numbersBytes (c .transfer .offset) (c .transfer .ack) (c .transfer .last) (c .quiet) (c .identity) (c .stack .pointer) (c .keptbad)
+    ++ sequencerBytes (c .sequencer)
     ++ countsBytes (c .transfer .scsi .count) (c .transfer .host .count) (c .transfer .counter)
     ++ c .transfer .scsi .bytes
     ++ c .stack .bytes
@@ -72,29 +73,32 @@ module _ (c : Chip) (t : Tidy c) where
   pub counts-fit : (c .transfer .scsi .count < 256) × (c .transfer .host .count < 256)
   counts-fit = (omega (arith, tidy-scsi c t, t .range .transfer .scsi), omega (arith, tidy-host c t, t .range .transfer .host))
 
-  -- the array after each of the seven calls
-  pub all-stored : (m : List ℕ) {m1 m2 m3 m4 m5 m6 m7 : List ℕ} → m1 ≡ sets m 0 (registersBytes (c .registers)) → m2 ≡ sets m1 statusPlace (flagsBytes (c .status) (c .latches) (c .lines)) → m3 ≡ sets m2 offsetPlace (numbersBytes (c .transfer .offset) (c .transfer .ack) (c .transfer .last) (c .quiet) (c .identity) (c .stack .pointer) (c .keptbad)) → m4 ≡ sets m3 scsiCountPlace (countsBytes (c .transfer .scsi .count) (c .transfer .host .count) (c .transfer .counter)) → Placed m4 scsiBytesPlace (c .transfer .scsi .bytes) 8 m5 → Placed m5 stackBytesPlace (c .stack .bytes) 32 m6 → Placed m6 hostBytesPlace (c .transfer .host .bytes) 128 m7 → m7 ≡ imageOf (view c)
-  all-stored m {m1} {m2} {m3} {m4} e1 e2 e3 e4 p5 p6 p7 =
+  -- the array after each of the eight calls
+  pub all-stored : (m : List ℕ) {m1 m2 m3 m4 m5 m6 m7 m8 : List ℕ} → m1 ≡ sets m 0 (registersBytes (c .registers)) → m2 ≡ sets m1 statusPlace (flagsBytes (c .status) (c .latches) (c .lines)) → m3 ≡ sets m2 offsetPlace (numbersBytes (c .transfer .offset) (c .transfer .ack) (c .transfer .last) (c .quiet) (c .identity) (c .stack .pointer) (c .keptbad)) → m4 ≡ sets m3 sequencerPlace (sequencerBytes (c .sequencer)) → m5 ≡ sets m4 scsiCountPlace (countsBytes (c .transfer .scsi .count) (c .transfer .host .count) (c .transfer .counter)) → Placed m5 scsiBytesPlace (c .transfer .scsi .bytes) 8 m6 → Placed m6 stackBytesPlace (c .stack .bytes) 32 m7 → Placed m7 hostBytesPlace (c .transfer .host .bytes) 128 m8 → m8 ≡ imageOf (view c)
+  all-stored m {m1} {m2} {m3} {m4} {m5} e1 e2 e3 e4 e5 p6 p7 p8 =
       let l1 : length m1 ≡ length m = rw e1 (length-sets m 0 (registersBytes (c .registers))) in
       let l2 : length m2 ≡ length m1 = rw e2 (length-sets m1 statusPlace (flagsBytes (c .status) (c .latches) (c .lines))) in
       let l3 : length m3 ≡ length m2 =
       rw e3 (length-sets m2 offsetPlace (numbersBytes (c .transfer .offset) (c .transfer .ack) (c .transfer .last) (c .quiet) (c .identity) (c .stack .pointer) (c .keptbad)))
       in
-      let l4 : length m4 ≡ length m3 = rw e4 (length-sets m3 scsiCountPlace (countsBytes (c .transfer .scsi .count) (c .transfer .host .count) (c .transfer .counter))) in
-      let f0 : Filled m 0 [] = none m (omega (arith, p5 .size)) in
+      let l4 : length m4 ≡ length m3 = rw e4 (length-sets m3 sequencerPlace (sequencerBytes (c .sequencer))) in
+      let l5 : length m5 ≡ length m4 = rw e5 (length-sets m4 scsiCountPlace (countsBytes (c .transfer .scsi .count) (c .transfer .host .count) (c .transfer .counter))) in
+      let f0 : Filled m 0 [] = none m (omega (arith, p6 .size)) in
       let f1 = stored f0 (registersBytes (c .registers)) (omega arith) e1 in
       let f2 = stored f1 (flagsBytes (c .status) (c .latches) (c .lines)) (omega arith) e2 in
       let f3 = stored f2 (numbersBytes (c .transfer .offset) (c .transfer .ack) (c .transfer .last) (c .quiet) (c .identity) (c .stack .pointer) (c .keptbad)) (omega arith) e3 in
-      let f4 = stored f3 (countsBytes (c .transfer .scsi .count) (c .transfer .host .count) (c .transfer .counter)) (omega arith) e4 in
-      whole (copied (copied (copied f4 (omega arith) p5) (omega arith) p6) (omega arith) p7) ∙ of-chip
+      let f4 = stored f3 (sequencerBytes (c .sequencer)) (omega arith) e4 in
+      let f5 = stored f4 (countsBytes (c .transfer .scsi .count) (c .transfer .host .count) (c .transfer .counter)) (omega arith) e5 in
+      whole (copied (copied (copied f5 (omega arith) p6) (omega arith) p7) (omega arith) p8) ∙ of-chip
 
   -- every byte that was stored is one
-  pub in-bytes : RegistersBytes (c .registers) → c .lines .byte < 256 → c .transfer .last < 256 → Bytes (c .transfer .scsi .bytes) → Bytes (c .stack .bytes) → Bytes (c .transfer .host .bytes) → InBytes (view c)
-  unfolding view registersView pathView stackView
-  in-bytes r l a scsi stack host =
+  pub in-bytes : RegistersBytes (c .registers) → c .lines .byte < 256 → c .transfer .last < 256 → c .sequencer .selid < 256 → Bytes (c .transfer .scsi .bytes) → Bytes (c .stack .bytes) → Bytes (c .transfer .host .bytes) → InBytes (view c)
+  unfolding view registersView pathView stackView sequencerView
+  in-bytes r l a i scsi stack host =
       record {
         lines = l;
         registers = record { scsidat = r .scsidat; brstcntrl = r .brstcntrl };
         transfer = record { last = a; host = bytes-take (c .transfer .host .count) (c .transfer .host .bytes) host; scsi = bytes-take (c .transfer .scsi .count) (c .transfer .scsi .bytes) scsi };
         stack = stack;
+        selid = i;
       }

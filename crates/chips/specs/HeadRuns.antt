@@ -1,4 +1,4 @@
--- The head of an image in four runs of bytes, and a copy into the places after it.
+-- The head of an image in five runs of bytes, and a copy into the places after it.
 use Prim.Native.Nat.{ℕ}
 use mathlib.Core.Path.{_≡_}
 use mathlib.Core.Bool.{Bool}
@@ -15,8 +15,9 @@ use Rattle.rules.specs.declared.records.Lines.{Lines}
 use Rattle.rules.specs.declared.chip.Status.{Status}
 use Rattle.rules.specs.declared.chip.Latches.{Latches}
 use Rattle.rules.specs.declared.chip.Stack.{Stack}
+use Rattle.rules.specs.declared.chip.Sequencer.{Sequencer}
 use Rattle.rules.specs.declared.chip.Chip.{Chip}
-use Rattle.image.specs.Image.{imageOf, IsImage, scsisigByte, scsirateByte, scsiidByte, statusByte, latchesByte, upperByte, controlByte}
+use Rattle.image.specs.Image.{imageOf, IsImage, scsisigByte, scsirateByte, scsiidByte, statusByte, latchesByte, sequencerByte, selectionByte, upperByte, controlByte}
 use Rattle.image.specs.Layout.{imageSize, pointerPlace, stackBytesPlace}
 
 -- from 0 on
@@ -44,6 +45,17 @@ flagsBytes t k l = statusByte t ∷ latchesByte k ∷ l .byte ∷ upperByte l �
 abbrev pub numbersBytes : ℕ → Bool → ℕ → ℕ → ℕ → ℕ → Bool → List ℕ
 numbersBytes offset ack last quiet identity pointer kept =
     offset ∷ one ack ∷ last ∷ quiet ∷ identity ∷ pointer ∷ one kept ∷ []
+
+-- from the sequencer on
+abbrev pub sequencerBytes : Sequencer → List ℕ
+sequencerBytes q =
+    sequencerByte q
+    ∷ selectionByte (q .latches)
+    ∷ counterByte 2 (q .ticks)
+    ∷ counterByte 1 (q .ticks)
+    ∷ counterByte 0 (q .ticks)
+    ∷ q .selid
+    ∷ []
 
 -- from the counts on
 abbrev pub countsBytes : ℕ → ℕ → ℕ → List ℕ

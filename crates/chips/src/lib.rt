@@ -13,6 +13,7 @@ use crate::put::put_host;
 use crate::put::put_numbers;
 use crate::put::put_registers;
 use crate::put::put_scsi;
+use crate::put::put_sequencer;
 use crate::put::put_stack;
 use crate::taken::lines_at;
 use crate::taken::path_at;
@@ -36,6 +37,7 @@ pub fn store(c: Chip, m: &mut Image)
     let registers = c.registers;
     let path = c.transfer;
     let stack = c.stack;
+    let sequencer = c.sequencer;
     let scsi = path.scsi.bytes;
     let host = path.host.bytes;
     let bytes = stack.bytes;
@@ -51,6 +53,7 @@ pub fn store(c: Chip, m: &mut Image)
         c.keptbad,
         m,
     );
+    put_sequencer(sequencer, m);
     put_counts(path.scsi.count, path.host.count, path.counter, m);
     put_scsi(scsi, m);
     put_stack(bytes, m);
@@ -68,6 +71,7 @@ pub fn load(m: &Image) -> Chip
     let status = status_of(m[STATUS]);
     let latches = latches_of(m[LATCHES]);
     let stack = stack_at(m);
+    let sequencer = image::sequencer::sequencer(m);
     Chip {
         lines: lines,
         registers: registers,
@@ -78,5 +82,6 @@ pub fn load(m: &Image) -> Chip
         keptbad: m[KEPT_PARITY] == 1,
         quiet: m[QUIET],
         identity: m[IDENTITY],
+        sequencer: sequencer,
     }
 }

@@ -4,8 +4,8 @@ ghost use Prim.Native.Nat.{_<_};
 ghost use lib.ListN.{length};
 ghost use lib.Seq.{sets};
 ghost use Rattle.rules.specs.Ranges.{RegistersFit, RegistersBytes};
-ghost use Rattle.chips.specs.HeadRuns.{registersBytes, flagsBytes, numbersBytes, countsBytes, Placed};
-ghost use Rattle.image.specs.Layout.{hostBytesPlace, imageSize, offsetPlace, scsiBytesPlace, scsiCountPlace, scsiseqPlace, stackBytesPlace, statusPlace};
+ghost use Rattle.chips.specs.HeadRuns.{registersBytes, flagsBytes, numbersBytes, sequencerBytes, countsBytes, Placed};
+ghost use Rattle.image.specs.Layout.{hostBytesPlace, imageSize, offsetPlace, scsiBytesPlace, scsiCountPlace, scsiseqPlace, sequencerPlace, stackBytesPlace, statusPlace};
 use image::bytes::control_byte;
 use image::bytes::latches_byte;
 use image::bytes::scsisig_byte;
@@ -38,12 +38,20 @@ use image::layout::SCSIID;
 use image::layout::SCSIRATE;
 use image::layout::SCSISEQ;
 use image::layout::SCSISIG;
+use image::layout::SELECTION_LATCHES;
+use image::layout::SELID;
+use image::layout::SEQUENCER;
 use image::layout::SIMODE0;
 use image::layout::SIMODE1;
 use image::layout::STACK_BYTES;
 use image::layout::STATUS;
 use image::layout::SXFRCTL0;
 use image::layout::SXFRCTL1;
+use image::layout::TICKS_HIGH;
+use image::layout::TICKS_LOW;
+use image::layout::TICKS_MIDDLE;
+use image::sequencer::selection_byte;
+use image::sequencer::sequencer_byte;
 use registers::bytes::dmacntrl0_byte;
 use registers::bytes::dmacntrl1_byte;
 use registers::bytes::scsiseq_byte;
@@ -52,6 +60,7 @@ use registers::bytes::simode1_byte;
 use registers::bytes::sxfrctl0_byte;
 use registers::bytes::sxfrctl1_byte;
 use rules::chip::Latches;
+use rules::chip::Sequencer;
 use rules::chip::Status;
 use rules::records::Lines;
 use rules::registers::Registers;
@@ -106,6 +115,20 @@ pub fn put_numbers(
     m[IDENTITY] = identity;
     m[POINTER] = pointer;
     m[KEPT_PARITY] = kept as u8;
+}
+
+// The sequencer of R-1: its flags with its phase, its latches, the three bytes of its ticks, and what 345h reads.
+pub fn put_sequencer(q: Sequencer, m: &mut Image)
+    ensures { λ _. ⌜ (now (m .exit) ≡ sets (now (m .entry)) sequencerPlace (sequencerBytes q)) × (q .selid < 256) ⌝ }
+{
+    let ticks = q.ticks;
+    let latches = q.latches;
+    m[SEQUENCER] = sequencer_byte(q);
+    m[SELECTION_LATCHES] = selection_byte(latches);
+    m[TICKS_HIGH] = ((ticks >> 16) % 256) as u8;
+    m[TICKS_MIDDLE] = ((ticks >> 8) % 256) as u8;
+    m[TICKS_LOW] = ((ticks >> 0) % 256) as u8;
+    m[SELID] = q.selid;
 }
 
 // The counts of the FIFOs, and the counter's three bytes.

@@ -91,7 +91,6 @@ pub fn registers_at(m: &Image) -> Registers
     }
 }
 
-// The counter from its three bytes, the lowest first.
 fn count_of(b: u8) -> usize
     ensures { λ r. ⌜ r ≡ b ⌝ }
 {

@@ -161,7 +161,7 @@ fn selection_of(v: u8) -> Selection
     }
 }
 
-fn selection_byte(k: Selection) -> u8
+pub fn selection_byte(k: Selection) -> u8
     ensures { λ r. ⌜ r ≡ selectionByte k ⌝ }
 {
     byte_of(

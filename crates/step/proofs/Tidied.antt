@@ -3,7 +3,7 @@ use mathlib.Core.Path.{_≡_}
 use Prim.Native.Nat.{ℕ, min}
 use native.Mathlib.Omega.{arith}
 use lib.ListN.{length, length-take}
-use Rattle.rules.specs.Chips.{pathView, registersView, stackView, view}
+use Rattle.rules.specs.Chips.{pathView, registersView, stackView, sequencerView, view}
 use Rattle.rules.specs.Ranges.{TransferFits, RegistersFit, StackFits, InRange}
 use Rattle.rules.specs.declared.chip.DataPath.{DataPath}
 use Rattle.rules.specs.declared.chip.Stack.{Stack}
@@ -24,7 +24,7 @@ unfolding stackView
 stack-fits k h = record { pointer = omega arith; size = h }
 
 pub view-fits : (c : Chip) → TransferFits (pathView (c .transfer)) → StackFits (stackView (c .stack)) → InRange (view c)
-unfolding view registersView
+unfolding view registersView sequencerView
 view-fits c p k =
     record {
       registers = record { sxfr = omega arith; sofs = omega arith; oid = omega arith; tid = omega arith };
@@ -32,4 +32,5 @@ view-fits c p k =
       stack = k;
       quiet = omega arith;
       identity = omega arith;
+      sequencer = omega arith;
     }

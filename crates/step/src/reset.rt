@@ -1,12 +1,15 @@
 // The chip after power reset, and any chip value in its one form.
 ghost use mathlib.Core.Path.{_≡_};
 ghost use Prim.Native.Nat.{min};
-ghost use Rattle.rules.specs.State.{released, registersReset, statusReset, latchesReset, powerReset};
-ghost use Rattle.rules.specs.Chips.{pathOf, registersView, chipOf};
+ghost use Rattle.rules.specs.State.{released, registersReset, statusReset, latchesReset, sequencerReset, powerReset};
+ghost use Rattle.rules.specs.Chips.{pathOf, registersView, sequencerView, chipOf};
 ghost use Rattle.step.specs.Entry.{PathEntered, StackEntered, Entered};
 use rules::chip::Chip;
 use rules::chip::DataPath;
 use rules::chip::Latches;
+use rules::chip::Phase;
+use rules::chip::Selection;
+use rules::chip::Sequencer;
 use rules::chip::Stack;
 use rules::chip::Status;
 use rules::records::Lines;
@@ -90,6 +93,26 @@ fn latches_reset() -> Latches
     }
 }
 
+// R-1: "All is 0, released and idle after power reset."
+fn sequencer_reset() -> Sequencer
+    ensures { λ r. ⌜ r ≡ sequencerReset ⌝ }
+{
+    let none = Selection {
+        seldo: false,
+        seldi: false,
+        selingo: false,
+        selto: false,
+    };
+    Sequencer {
+        phase: Phase::Idle,
+        ticks: 0,
+        noted: false,
+        selid: 0,
+        status: none,
+        latches: none,
+    }
+}
+
 fn path_reset() -> DataPath
     ensures { λ r. ⌜ r ≡ pathOf (powerReset .transfer) ⌝ }
 {
@@ -114,6 +137,7 @@ pub fn power_reset() -> Chip
     let path = path_reset();
     let status = status_reset();
     let latches = latches_reset();
+    let sequencer = sequencer_reset();
     let bytes = [0u8; 32];
     let stack = Stack {
         bytes: bytes,
@@ -129,6 +153,7 @@ pub fn power_reset() -> Chip
         keptbad: false,
         quiet: 0,
         identity: 0,
+        sequencer: sequencer,
     }
 }
 
@@ -179,6 +204,23 @@ fn stack_tidied(k: Stack) -> Stack
     n
 }
 
+// The ticks are held in 24 bits.
+fn sequencer_tidied(q: Sequencer) -> Sequencer
+    ensures { λ r. ⌜ r ≡ sequencerView q ⌝ }
+{
+    let phase = q.phase;
+    let status = q.status;
+    let latches = q.latches;
+    Sequencer {
+        phase: phase,
+        ticks: q.ticks % 16777216,
+        noted: q.noted,
+        selid: q.selid,
+        status: status,
+        latches: latches,
+    }
+}
+
 // Any chip value in the one form that functions return: counts cut to the size, numbers brought into range.
 pub fn tidied(c: Chip) -> Chip
     ensures { λ r. ⌜ Entered c r ⌝ }
@@ -189,6 +231,8 @@ pub fn tidied(c: Chip) -> Chip
     let held = path_tidied(path);
     let stack = c.stack;
     let kept = stack_tidied(stack);
+    let sequencer = c.sequencer;
+    let timed = sequencer_tidied(sequencer);
     let quiet = at_most_8(c.quiet);
     let mut n = c;
     n.registers = stored;
@@ -196,5 +240,6 @@ pub fn tidied(c: Chip) -> Chip
     n.stack = kept;
     n.quiet = quiet;
     n.identity = c.identity % 32;
+    n.sequencer = timed;
     n
 }

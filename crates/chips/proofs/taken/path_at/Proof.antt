@@ -17,7 +17,7 @@ returns c =
     record {
       host = record { bytes = (c .before .before .before .before .before .before .before .before .before .before .before .before .before .host-bytes .ensures ∙ host-held m (s .pre)) i; count = (c .before .before .before .before .before .before .before .before .before .count-of .ensures ∙ host-counted m (s .pre)) i };
       scsi = record { bytes = (c .before .before .before .before .before .before .before .before .before .before .before .scsi-bytes .ensures ∙ scsi-held m (s .pre)) i; count = (c .before .before .before .before .before .before .before .count-of2 .ensures ∙ scsi-counted m (s .pre)) i };
-      counter = c .before .before .before .counter-of .ensures i;
+      counter = c .before .before .before .number-of .ensures i;
       offset = getD m offsetPlace 0;
       ack = eqb (getD m ackPlace 0) 1;
       last = getD m lastPlace 0;

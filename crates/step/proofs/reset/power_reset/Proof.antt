@@ -19,9 +19,12 @@ status-reset-requires c κs = search needs
 latches-reset-requires : tie.Need-latches-reset-requires
 latches-reset-requires c κs = search needs
 
+sequencer-reset-requires : tie.Need-sequencer-reset-requires
+sequencer-reset-requires c κs = search needs
+
 returns : tie.Need-returns
 unfolding chipOf powerReset
-returns c = rw (c .latches-reset .ensures, c .before .status-reset .ensures, c .before .before .path-reset .ensures, c .before .before .before .registers-reset .ensures, c .before .before .before .before .lines-released .ensures)
+returns c = rw (c .sequencer-reset .ensures, c .before .latches-reset .ensures, c .before .before .status-reset .ensures, c .before .before .before .path-reset .ensures, c .before .before .before .before .registers-reset .ensures, c .before .before .before .before .before .lines-released .ensures)
 
 pub power-reset-spec : {M : Type 1} → statement M
 power-reset-spec =
@@ -32,4 +35,5 @@ power-reset-spec =
     path-reset-requires
     status-reset-requires
     latches-reset-requires
+    sequencer-reset-requires
     returns)

@@ -13,12 +13,20 @@ path-tidied-requires c κs = search needs
 stack-tidied-requires : tie.Need-stack-tidied-requires
 stack-tidied-requires c κs = search needs
 
+sequencer-tidied-requires : tie.Need-sequencer-tidied-requires
+sequencer-tidied-requires c κs = search needs
+
 at-most-8-requires : tie.Need-at-most-8-requires
 at-most-8-requires c κs = search needs
 
 returns : tie.Need-returns
 unfolding chipOf view
-returns c = record { packed = rw (c .before .at-most-8 .ensures, c .before .before .stack-tidied .ensures .packed, c .before .before .before .before .path-tidied .ensures .packed, c .before .before .before .before .before .before .registers-tidied .ensures); range = view-fits (c .before .before .before .before .before .before .before .before .args .c) (c .before .before .before .before .path-tidied .ensures .range) (c .before .before .stack-tidied .ensures .range) }
+returns c =
+    record {
+      packed =
+          rw (c .before .at-most-8 .ensures, c .before .before .sequencer-tidied .ensures, c .before .before .before .before .stack-tidied .ensures .packed, c .before .before .before .before .before .before .path-tidied .ensures .packed, c .before .before .before .before .before .before .before .before .registers-tidied .ensures);
+      range = view-fits (c .before .before .before .before .before .before .before .before .before .before .args .c) (c .before .before .before .before .before .before .path-tidied .ensures .range) (c .before .before .before .before .stack-tidied .ensures .range);
+    }
 
 pub tidied-spec : {M : Type 1} → statement M
 tidied-spec =
@@ -27,5 +35,6 @@ tidied-spec =
     registers-tidied-requires
     path-tidied-requires
     stack-tidied-requires
+    sequencer-tidied-requires
     at-most-8-requires
     returns)
