@@ -18,7 +18,7 @@ use Rattle.laws.proofs.Lists.{padded-length}
 use Rattle.laws.proofs.Bits.{one-below}
 use Rattle.stack.proofs.Places.{place-lt}
 use Rattle.image.specs.Image.{imageOf, stateAt, statusOf, latchesOf, IsImage}
-use Rattle.image.specs.Layout.{brstcntrlPlace, counterHighPlace, counterLowPlace, counterMiddlePlace, dmacntrl0Place, dmacntrl1Place, hostBytesPlace, hostCountPlace, identityPlace, imageSize, latchesPlace, pointerPlace, scsiCountPlace, scsiseqPlace, simode0Place, simode1Place, stackBytesPlace, statusPlace, sxfrctl0Place, sxfrctl1Place}
+use Rattle.image.specs.Layout.{brstcntrlPlace, counterHighPlace, counterLowPlace, counterMiddlePlace, dmacntrl0Place, dmacntrl1Place, hostBytesPlace, hostCountPlace, identityPlace, imageSize, latchesPlace, pointerPlace, scsiCountPlace, scsiseqPlace, selidPlace, simode0Place, simode1Place, stackBytesPlace, statusPlace, sxfrctl0Place, sxfrctl1Place}
 
 -- zeros read as 0, and so does what is past them
 zeros : (n i : ℕ) → getD (replicate n zero) i zero ≡ zero
@@ -179,6 +179,10 @@ module _ (m : List ℕ) (i : IsImage m) where
   pub at-brstcntrl : getD m brstcntrlPlace 0 ≡ (stateAt m) .registers .brstcntrl
   unfolding stateAt
   at-brstcntrl = refl
+
+  pub at-selid : getD m selidPlace 0 ≡ (stateAt m) .sequencer .selid
+  unfolding stateAt
+  at-selid = refl
 
   pub at-bus : dataSeen (stateAt m) ≡ scsibus (stateAt m)
   unfolding scsibus stateAt

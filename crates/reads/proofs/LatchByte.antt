@@ -1,4 +1,4 @@
--- A latch is set where the byte of the latches is not 0.
+-- A latch is set where the byte of the latches is not 0, and so with the latches of selection.
 use Prim.Native.Nat.{ℕ, zero, suc, _+_, _*_, _/_, _%_, _^_, _<_}
 use mathlib.Core.Path.{_≡_, refl, ap, _∙_, sym}
 use mathlib.Core.Bool.{Bool, true, false, not, _||_}
@@ -6,8 +6,8 @@ use native.Mathlib.Omega.{arith}
 use lib.Dec.{eqb}
 use borrow.Author.Tests.{ne-eqb}
 use Rattle.rules.specs.Numbers.{bit, one, byteOf}
-use Rattle.rules.specs.Interrupts.{anyLatch}
-use Rattle.image.specs.Image.{latchesOf}
+use Rattle.rules.specs.Interrupts.{anyLatch, anySelection}
+use Rattle.image.specs.Image.{latchesOf, selectionOf}
 
 pub one-bit : (x : ℕ) → x < 2 → one (eqb x 1) ≡ x
 one-bit zero h = refl
@@ -51,3 +51,13 @@ some-set false false false false false false = refl
 
 pub any-set : (v : ℕ) → not (eqb (v % 64) 0) ≡ anyLatch (latchesOf v)
 any-set v = ap (λ (n : ℕ). not (eqb n 0)) (sym (six v)) ∙ some-set (bit v 5) (bit v 4) (bit v 3) (bit v 2) (bit v 1) (bit v 0)
+
+sum-of-four : (b3 b2 b1 b0 r3 r2 r1 r0 : ℕ) → r3 ≡ b3 * 8 + r2 → r2 ≡ b2 * 4 + r1 → r1 ≡ b1 * 2 + r0 → r0 ≡ b0 → 0 * 128 + 0 * 64 + 0 * 32 + 0 * 16 + b3 * 8 + b2 * 4 + b1 * 2 + b0 ≡ r3
+sum-of-four b3 b2 b1 b0 r3 r2 r1 r0 h3 h2 h1 h0 = omega arith
+
+-- the four low bits of a number
+four : (v : ℕ) → byteOf false false false false (bit v 3) (bit v 2) (bit v 1) (bit v 0) ≡ v % 16
+four v = sum-of-four (one (bit v 3)) (one (bit v 2)) (one (bit v 1)) (one (bit v 0)) (v % 16) (v % 8) (v % 4) (v % 2) (top-3 v) (top-2 v) (top-1 v) (top-0 v)
+
+pub any-selection-set : (v : ℕ) → not (eqb (v % 16) 0) ≡ anySelection (selectionOf v)
+any-selection-set v = ap (λ (n : ℕ). not (eqb n 0)) (sym (four v)) ∙ some-set false false (bit v 3) (bit v 2) (bit v 1) (bit v 0)

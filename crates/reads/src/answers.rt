@@ -1,11 +1,11 @@
 // The answer, read off an image.
 ghost use mathlib.Core.Path.{_≡_};
-ghost use mathlib.Core.Bool.{_&&_, cond};
-ghost use Rattle.rules.specs.Numbers.{ones, even};
-ghost use Rattle.rules.specs.Seen.{normal};
+ghost use mathlib.Core.Bool.{_&&_, _||_, cond, false};
+ghost use Rattle.rules.specs.Numbers.{ones, even, byteOf};
+ghost use Rattle.rules.specs.Seen.{ackDriven};
 ghost use Rattle.rules.specs.Answers.{answerBytes, controlDriven};
-ghost use Rattle.image.specs.Image.{IsImage, stateAt, registersAt, transferAt};
-ghost use Rattle.reads.specs.Answering.{answerWith};
+ghost use Rattle.image.specs.Image.{IsImage, stateAt};
+ghost use Rattle.reads.specs.Answering.{byteGiven, answerWith};
 use crate::interrupts::irq;
 use image::bits::atno;
 use image::bits::bsyo;
@@ -20,21 +20,36 @@ use image::layout::LAST;
 use image::layout::OFFSET;
 use image::layout::SCSI_COUNT;
 use image::layout::SCSIDAT;
+use image::layout::SCSIID;
+use image::layout::SEQUENCER;
+use image::sequencer::drives_bsy;
+use image::sequencer::drives_data;
+use image::sequencer::drives_sel;
+use image::sequencer::phase;
+use image::sequencer::phase_data;
 use laws::byte_of;
 use parity::parity_for;
 use rules::codes::Code;
 use rules::records::Answer;
 use wire::answer_bytes;
 
+// "Where the sequencer gives data, that is what is driven, whatever the mode"
+fn byte_given(m: &Image) -> u8
+    ensures { λ b. ⌜ b ≡ byteGiven (stateAt (now (m .entry))) ⌝ }
+{
+    let p = phase(m);
+    if drives_data(p) {
+        phase_data(p, m[SCSIID])
+    } else {
+        if normal(m) { m[LAST] } else { m[SCSIDAT] }
+    }
+}
+
 // "Undriven data and parity are 0.": whether data is driven is judged once, by the caller.
 fn byte_driven(m: &Image, driving: bool) -> u8
-    ensures { λ b. ⌜ b ≡ cond driving (cond (normal (registersAt (now (m .entry)))) ((transferAt (now (m .entry))) .last) ((registersAt (now (m .entry))) .scsidat)) 0 ⌝ }
+    ensures { λ b. ⌜ b ≡ cond driving (byteGiven (stateAt (now (m .entry)))) 0 ⌝ }
 {
-    if driving {
-        if normal(m) { m[LAST] } else { m[SCSIDAT] }
-    } else {
-        0
-    }
+    if driving { byte_given(m) } else { 0 }
 }
 
 // "Parity driven makes the ones odd.": they are counted only where data is driven.
@@ -44,15 +59,29 @@ fn parity_of(driving: bool, driven: u8) -> bool
     if driving { parity_for(driven) } else { false }
 }
 
-// The control lines driven, in the order of 343h: CD, IO, MSG and REQ never are.
-fn control_driven(m: &Image) -> u8
-    ensures { λ b. ⌜ b ≡ controlDriven (stateAt (now (m .entry))) ⌝ }
+// The control lines driven, in the order of 343h, with the SEL and BSY that are given: CD, IO, MSG and REQ never are.
+fn control_with(m: &Image, select: bool, busy: bool) -> u8
+    ensures { λ b. ⌜ b ≡ byteOf false false false ((stateAt (now (m .entry))) .registers .scsisig .atno) ((stateAt (now (m .entry))) .registers .scsisig .selo || select) ((stateAt (now (m .entry))) .registers .scsisig .bsyo || busy) false (ackDriven (stateAt (now (m .entry)))) ⌝ }
 {
     let acked = ack_driven(m);
     let atn = atno(m);
-    let sel = selo(m);
-    let bsy = bsyo(m);
+    let sel = selo(m) | select;
+    let bsy = bsyo(m) | busy;
     byte_of(false, false, false, atn, sel, bsy, false, acked)
+}
+
+// The sequencer is idle most of the time, and then its phase is not taken apart.
+fn control_driven(m: &Image) -> u8
+    ensures { λ b. ⌜ b ≡ controlDriven (stateAt (now (m .entry))) ⌝ }
+{
+    if m[SEQUENCER] % 8 == 0 {
+        control_with(m, false, false)
+    } else {
+        let p = phase(m);
+        let sel = drives_sel(p);
+        let bsy = drives_bsy(p);
+        control_with(m, sel, bsy)
+    }
 }
 
 // The sixteen bytes of the answer after an event, with what settling reports and the bytes sent.

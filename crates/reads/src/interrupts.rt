@@ -1,7 +1,7 @@
 // PHASEMIS, INSTAT and IRQ, read off an image.
 ghost use mathlib.Core.Path.{_≡_};
 ghost use mathlib.Core.Bool.{_&&_};
-ghost use Rattle.rules.specs.Interrupts.{phasemis, instat, irq, anyLatch};
+ghost use Rattle.rules.specs.Interrupts.{phasemis, instat, irq, anyLatch, anySelection};
 ghost use Rattle.image.specs.Image.{stateAt};
 use image::bits::enphasemis;
 use image::bits::inten;
@@ -10,6 +10,7 @@ use image::bits::swint;
 use image::bus::mismatched;
 use image::layout::Image;
 use image::layout::LATCHES;
+use image::layout::SELECTION_LATCHES;
 
 // "PHASEMIS is live: connected, not matched, REQINIT.": the lines are looked at only where REQINIT is set.
 pub fn phasemis(m: &Image) -> bool
@@ -34,11 +35,18 @@ fn any_latch(m: &Image) -> bool
     !(m[LATCHES] % 64 == 0)
 }
 
+// R-1: the four latches of selection are the low bits of another.
+fn any_selection(m: &Image) -> bool
+    ensures { λ b. ⌜ b ≡ anySelection ((stateAt (now (m .entry))) .sequencer .latches) ⌝ }
+{
+    !(m[SELECTION_LATCHES] % 16 == 0)
+}
+
 // "INSTAT is any latch, enabled PHASEMIS, or SWINT."
 pub fn instat(m: &Image) -> bool
     ensures { λ b. ⌜ b ≡ instat (stateAt (now (m .entry))) ⌝ }
 {
-    let at_once = any_latch(m) | swint(m);
+    let at_once = any_latch(m) | any_selection(m) | swint(m);
     if at_once { true } else { enabled_phasemis(m) }
 }
 

@@ -8,6 +8,10 @@ ghost use Rattle.rules.specs.Stack.{stackPlace, stackByte};
 ghost use Rattle.image.specs.Image.{IsImage, stateAt};
 use crate::interrupts::instat;
 use crate::interrupts::phasemis;
+use crate::selection::seldi;
+use crate::selection::seldo;
+use crate::selection::selingo;
+use crate::selection::selto;
 use image::bits::atno;
 use image::bits::busfree;
 use image::bits::enstk32;
@@ -63,23 +67,28 @@ pub fn scsisigi(m: &Image) -> u8
 pub fn sstat0(m: &Image) -> u8
     ensures { λ b. ⌜ b ≡ sstat0 (stateAt (now (m .entry))) ⌝ }
 {
+    let seldo = seldo(m);
+    let seldi = seldi(m);
+    let selingo = selingo(m);
     let spiordy = spiordy(m);
-    byte_of(false, false, false, false, false, false, spiordy, false)
+    byte_of(false, seldo, seldi, selingo, false, false, spiordy, false)
 }
 
-// 34Ch
+// 34Ch: ATNTARG, bit 6, is not ruled and reads 0.
 pub fn sstat1(m: &Image) -> u8
     ensures { λ b. ⌜ b ≡ sstat1 (stateAt (now (m .entry))) ⌝ }
 {
+    let selto = selto(m);
     let phasemis = phasemis(m);
     let scsirsti = scsirsti(m);
     let busfree = busfree(m);
     let scsiperr = scsiperr(m);
     let phasechg = phasechg(m);
     let reqinit = reqinit(m);
+    let atntarg = false;
     byte_of(
-        false,
-        false,
+        selto,
+        atntarg,
         scsirsti,
         phasemis,
         busfree,

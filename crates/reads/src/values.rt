@@ -26,6 +26,7 @@ use image::layout::HOST_COUNT;
 use image::layout::Image;
 use image::layout::POINTER;
 use image::layout::SCSISEQ;
+use image::layout::SELID;
 use image::layout::SIMODE0;
 use image::layout::SIMODE1;
 use image::layout::SXFRCTL0;
@@ -50,7 +51,7 @@ pub fn read_register(m: &Image, register: Register) -> u8
         Register::SXFRCTL0 => m[SXFRCTL0],
         Register::SXFRCTL1 => m[SXFRCTL1],
         Register::SCSISIGI => scsisigi(m),
-        Register::SELID => 0,
+        Register::SELID => m[SELID],
         Register::SCSIDAT => data_seen(m),
         Register::SCSIBUS => data_seen(m),
         Register::STCNT0 => m[COUNTER_LOW],

@@ -1,23 +1,29 @@
 use borrow.Author.Needs.{needs}
 use Prim.Native.Nat.{ℕ}
-use mathlib.Core.Path.{_≡_, ap, _∙_}
-use mathlib.Core.Bool.{Bool, _&&_, cond}
+use mathlib.Core.Path.{_≡_, refl, ap, _∙_}
+use mathlib.Core.Bool.{Bool, true, false, _&&_, _||_, cond}
 use lib.ListN.{getD}
 use Rattle.rules.specs.Numbers.{ones, even}
-use Rattle.rules.specs.Seen.{normal, driving, dataDriven, parityDriven}
+use Rattle.rules.specs.Seen.{normal, phaseDrives, phaseData, byteDriving, byteDriven, driving, dataDriven, parityDriven}
 use Rattle.rules.specs.State.{State}
 use Rattle.rules.specs.Answers.{answerBytes}
 use Rattle.image.specs.Image.{stateAt}
 use Rattle.image.specs.Layout.{offsetPlace}
-use Rattle.reads.specs.Answering.{answerWith}
+use Rattle.reads.specs.Answering.{byteGiven, answerWith}
 use Rattle.image.proofs.AtPlaces.{at-scsi, at-host}
 use Rattle.reads.proofs.answers.answer_of.Statement.{statement}
 use Rattle.reads.proofs.answers.answer_of.Tie as tie
 
--- by what was judged of driving
-data-by : (s : State) {d : Bool} {b : ℕ} → d ≡ driving s → b ≡ cond d (cond (normal (s .registers)) (s .transfer .last) (s .registers .scsidat)) 0 → b ≡ dataDriven s
-unfolding dataDriven
-data-by s e f = rw (← e) f
+-- by what was judged of driving: where the sequencer gives data, data is driven
+by-phase : (p b : Bool) (x y : ℕ) → cond (p || b) (cond p x y) 0 ≡ cond p x (cond b y 0)
+by-phase true b x y = refl
+by-phase false b x y = refl
+
+data-by : (s : State) {d : Bool} {b : ℕ} → d ≡ driving s → b ≡ cond d (byteGiven s) 0 → b ≡ dataDriven s
+unfolding driving dataDriven byteDriven byteGiven
+data-by s {d} {b} e f =
+    f ∙ ap (λ (t : Bool). cond t (byteGiven s) 0) e
+    ∙ by-phase (phaseDrives (s .sequencer .phase)) (byteDriving s) (phaseData (s .sequencer .phase) (s .registers .scsiid)) (cond (normal (s .registers)) (s .transfer .last) (s .registers .scsidat))
 
 parity-by : (s : State) {d p : Bool} {b : ℕ} → d ≡ driving s → b ≡ dataDriven s → p ≡ (d && even (ones b)) → p ≡ parityDriven s
 unfolding parityDriven

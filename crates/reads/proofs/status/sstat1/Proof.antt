@@ -14,9 +14,10 @@ returns c =
     let error = change .before in
     let free = error .before in
     let reset = free .before in
+    let mismatch = reset .before in
     c .byte-of .ensures
     ∙ (λ i.
-    byteOf false false (reset .scsirsti .ensures i) (reset .before .phasemis .ensures i) (free .busfree .ensures i) (error .scsiperr .ensures i) (change .phasechg .ensures i) (request .reqinit .ensures i))
+    byteOf (mismatch .before .selto .ensures i) false (reset .scsirsti .ensures i) (mismatch .phasemis .ensures i) (free .busfree .ensures i) (error .scsiperr .ensures i) (change .phasechg .ensures i) (request .reqinit .ensures i))
 
 pub sstat1-spec : {M : Type 1} → statement M
-sstat1-spec = tie.close (tie.spec (λ c κs. search needs) (λ c κs. search needs) (λ c κs. search needs) (λ c κs. search needs) (λ c κs. search needs) (λ c κs. search needs) (λ c κs. search needs) returns)
+sstat1-spec = tie.close (tie.spec (λ c κs. search needs) (λ c κs. search needs) (λ c κs. search needs) (λ c κs. search needs) (λ c κs. search needs) (λ c κs. search needs) (λ c κs. search needs) (λ c κs. search needs) returns)

@@ -3,7 +3,7 @@ use mathlib.Core.Path.{_∙_}
 use borrow.Author.Needs.{needs}
 use Rattle.rules.specs.Reads.{readOf}
 use Rattle.image.specs.Image.{stateAt}
-use Rattle.image.proofs.AtPlaces.{at-brstcntrl, at-bus, at-counter0, at-counter1, at-counter2, at-dmacntrl0, at-first, at-host, at-scsiseq, at-simode0, at-simode1, at-sxfrctl0, at-sxfrctl1}
+use Rattle.image.proofs.AtPlaces.{at-brstcntrl, at-bus, at-counter0, at-counter1, at-counter2, at-dmacntrl0, at-first, at-host, at-scsiseq, at-selid, at-simode0, at-simode1, at-sxfrctl0, at-sxfrctl1}
 use Rattle.reads.proofs.Unread.{unread}
 use Rattle.reads.proofs.values.read_register.Statement.{statement}
 use Rattle.reads.proofs.values.read_register.Tie as tie
@@ -21,6 +21,7 @@ read-register-spec =
     (λ c. search needs)
     (λ c. search needs)
     (λ c κs. search needs)
+    (λ c. search needs)
     (λ c. search needs)
     (λ c. search needs)
     (λ c κs. search needs)
@@ -67,7 +68,7 @@ read-register-spec =
     (λ c. rw (c .before .enum-told2 .given .1) (at-sxfrctl0 (c .before .before .before .args .m .now) (c .before .before .before .pre)))
     (λ c. rw (c .before .enum-told3 .given .1) (at-sxfrctl1 (c .before .before .before .args .m .now) (c .before .before .before .pre)))
     (λ c. rw (c .before .enum-told4 .given .1) (c .scsisigi .ensures))
-    (λ c. rw (c .enum-told5 .given .1))
+    (λ c. rw (c .before .enum-told5 .given .1) (at-selid (c .before .before .before .args .m .now) (c .before .before .before .pre)))
     (λ c. rw (c .before .enum-told6 .given .1) (c .data-seen .ensures ∙ at-bus (c .before .before .before .args .m .now) (c .before .before .before .pre)))
     (λ c. rw (c .before .enum-told7 .given .1) (c .data-seen2 .ensures ∙ at-bus (c .before .before .before .args .m .now) (c .before .before .before .pre)))
     (λ c. rw (c .before .enum-told8 .given .1) (at-counter0 (c .before .before .before .args .m .now) (c .before .before .before .pre)))
