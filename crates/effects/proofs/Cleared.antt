@@ -30,8 +30,8 @@ module _ {m n : List ℕ} (v : ℕ) (g : IsImage m) (h : n ≡ imageOf (channelC
   between =
       record {
         image = h;
-        range = record { registers = g .range .registers; transfer = cleared-fits (bit v 1) ((stateAt m) .transfer) (g .range .transfer); stack = g .range .stack; quiet = g .range .quiet; identity = g .range .identity };
-        bytes = record { lines = g .bytes .lines; registers = g .bytes .registers; transfer = cleared-bytes (bit v 1) ((stateAt m) .transfer) (g .bytes .transfer); stack = g .bytes .stack };
+        range = record { registers = g .range .registers; transfer = cleared-fits (bit v 1) ((stateAt m) .transfer) (g .range .transfer); stack = g .range .stack; quiet = g .range .quiet; identity = g .range .identity; sequencer = g .range .sequencer };
+        bytes = record { lines = g .bytes .lines; registers = g .bytes .registers; transfer = cleared-bytes (bit v 1) ((stateAt m) .transfer) (g .bytes .transfer); stack = g .bytes .stack; selid = g .bytes .selid };
       }
 
   pub channel-image : IsImage n

@@ -7,7 +7,7 @@ use Rattle.rules.specs.State.{State}
 use Rattle.rules.specs.Events.{writes, reads, valueOf, linesAfter, offered, asked, portWrite, ticksOf}
 use Rattle.rules.specs.Codes.{accessCode}
 use Rattle.rules.specs.Reads.{valueRead}
-use Rattle.rules.specs.StepA.{clears, clearsLatch, clearsError, clrstcnt, clrch, rstfifo, latchAccess, automaticAck, registersA, hostA, counterA, transferA, errorA, statusA, latchesA, stackA, identityA, afterA}
+use Rattle.rules.specs.StepA.{clears, clearsLatch, clearsError, clrstcnt, clrch, rstfifo, latchAccess, automaticAck, registersA, hostA, counterA, transferA, errorA, statusA, latchesA, stackA, identityA, sequencerA, givesUp, selectionA, notedA, selectionLatchesA, afterA}
 use Rattle.rules.specs.declared.codes.Code.the-variants.{Done}
 use Rattle.rules.specs.declared.records.Event.the-variants.{WordWrite, WordRead, Drive, Ticks}
 use Rattle.rules.specs.declared.records.Lines.{Lines}
@@ -22,19 +22,19 @@ use Rattle.effects.proofs.StatesOfA.{Leaves}
 -- the state after each, by computing
 module _ (s : State) where
   word-behind : (w : ℕ) → kept (withHost (s .transfer .host ++ (w % 256 ∷ w / 256 ∷ [])) s) ≡ afterA s (WordWrite w)
-  unfolding afterA linesAfter registersA transferA errorA statusA latchesA stackA identityA latchAccess automaticAck hostA counterA clears clearsLatch clearsError clrstcnt clrch rstfifo writes reads valueOf offered asked portWrite
+  unfolding afterA linesAfter registersA transferA errorA statusA latchesA stackA identityA sequencerA givesUp selectionA notedA selectionLatchesA latchAccess automaticAck hostA counterA clears clearsLatch clearsError clrstcnt clrch rstfifo writes reads valueOf offered asked portWrite
   word-behind w = refl
 
   word-off : kept (withHost (drop 2 (s .transfer .host)) s) ≡ afterA s WordRead
-  unfolding afterA linesAfter registersA transferA errorA statusA latchesA stackA identityA latchAccess automaticAck hostA counterA clears clearsLatch clearsError clrstcnt clrch rstfifo writes reads valueOf offered asked portWrite
+  unfolding afterA linesAfter registersA transferA errorA statusA latchesA stackA identityA sequencerA givesUp selectionA notedA selectionLatchesA latchAccess automaticAck hostA counterA clears clearsLatch clearsError clrstcnt clrch rstfifo writes reads valueOf offered asked portWrite
   word-off = refl
 
   lines-driven : (l : Lines) → kept (withLines l s) ≡ afterA s (Drive l)
-  unfolding afterA linesAfter registersA transferA errorA statusA latchesA stackA identityA latchAccess automaticAck hostA counterA clears clearsLatch clearsError clrstcnt clrch rstfifo writes reads valueOf offered asked portWrite
+  unfolding afterA linesAfter registersA transferA errorA statusA latchesA stackA identityA sequencerA givesUp selectionA notedA selectionLatchesA latchAccess automaticAck hostA counterA clears clearsLatch clearsError clrstcnt clrch rstfifo writes reads valueOf offered asked portWrite
   lines-driven l = refl
 
   ticks-passed : (n : ℕ) → kept s ≡ afterA s (Ticks n)
-  unfolding afterA linesAfter registersA transferA errorA statusA latchesA stackA identityA latchAccess automaticAck hostA counterA clears clearsLatch clearsError clrstcnt clrch rstfifo writes reads valueOf offered asked portWrite
+  unfolding afterA linesAfter registersA transferA errorA statusA latchesA stackA identityA sequencerA givesUp selectionA notedA selectionLatchesA latchAccess automaticAck hostA counterA clears clearsLatch clearsError clrstcnt clrch rstfifo writes reads valueOf offered asked portWrite
   ticks-passed n = refl
 
 module _ {m : List ℕ} (g : IsImage m) where

@@ -20,7 +20,7 @@ use Rattle.image.specs.Image.{stateAt, IsImage}
 use Rattle.rules.specs.Changed.{withHost}
 use Rattle.image.specs.Layout.{controlPlace, statusPlace}
 use Rattle.datapath.specs.Fits.{counterWritten}
-use Rattle.effects.specs.Writes.{Leaving, Does, Plain, storing, kept, channelCleared, counterCleared, hostCleared, ackCounted}
+use Rattle.effects.specs.Writes.{Leaving, Does, Plain, Selects, storing, sequencing, kept, channelCleared, counterCleared, hostCleared, ackCounted}
 use Rattle.effects.proofs.StatesOfA.{Leaves}
 use Rattle.effects.proofs.WriteCodes.{write-code, Test, test-done}
 
@@ -29,10 +29,6 @@ unfolding Leaving
 leaves d {b = b} g {v = v} f = record { image = g; fits = (d .fits, f); done = d .done (stateAt b) v (g .range .transfer .host); after = d .after (stateAt b) v }
 
 -- the registers that are only stored
-pub scsiseq : Plain SCSISEQ
-unfolding Leaving
-scsiseq = record { written = refl; does = record { fits = omega arith; done = λ s v. write-code s 0x00 v; after = λ s v. refl } }
-
 pub sxfrctl1 : Plain SXFRCTL1
 unfolding Leaving
 sxfrctl1 = record { written = refl; does = record { fits = omega arith; done = λ s v. write-code s 0x02 v; after = λ s v. refl } }
@@ -49,17 +45,22 @@ pub scsiid : Plain SCSIID
 unfolding Leaving
 scsiid = record { written = refl; does = record { fits = omega arith; done = λ s v. write-code s 0x05 v; after = λ s v. refl } }
 
-pub simode0 : Plain SIMODE0
-unfolding Leaving
-simode0 = record { written = refl; does = record { fits = omega arith; done = λ s v. write-code s 0x10 v; after = λ s v. refl } }
-
-pub simode1 : Plain SIMODE1
-unfolding Leaving
-simode1 = record { written = refl; does = record { fits = omega arith; done = λ s v. write-code s 0x11 v; after = λ s v. refl } }
-
 pub brstcntrl : Plain BRSTCNTRL
 unfolding Leaving
 brstcntrl = record { written = refl; does = record { fits = omega arith; done = λ s v. write-code s 0x18 v; after = λ s v. refl } }
+
+-- R-1: those that move the sequencer too
+pub scsiseq : Selects SCSISEQ
+unfolding Leaving
+scsiseq = record { written = refl; does = record { fits = omega arith; done = λ s v. write-code s 0x00 v; after = λ s v. refl } }
+
+pub simode0 : Selects SIMODE0
+unfolding Leaving
+simode0 = record { written = refl; does = record { fits = omega arith; done = λ s v. write-code s 0x10 v; after = λ s v. refl } }
+
+pub simode1 : Selects SIMODE1
+unfolding Leaving
+simode1 = record { written = refl; does = record { fits = omega arith; done = λ s v. write-code s 0x11 v; after = λ s v. refl } }
 
 -- "CLRSTCNT zeroes the counter; CLRCH empties the SCSI FIFO and zeroes the offset"
 pub sxfrctl0 : Does 0x01 (λ (s : State) (v : ℕ). kept (storing 0x01 (counterCleared (channelCleared s v) v) v))
@@ -100,7 +101,7 @@ unfolding Leaving
 stcnt2 = record { fits = omega arith; done = λ s v. write-code s 0x0A v; after = λ s v. refl }
 
 -- "A write to 34Bh clears latches only"
-pub clrsint0 : Does 0x0B (λ (s : State) (v : ℕ). withLatches (latchesA (s .latches) (Write 0x0B v)) (kept s))
+pub clrsint0 : Does 0x0B (λ (s : State) (v : ℕ). withLatches (latchesA (s .latches) (Write 0x0B v)) (kept (sequencing 0x0B s v)))
 unfolding Leaving
 clrsint0 = record { fits = omega arith; done = λ s v. write-code s 0x0B v; after = λ s v. refl }
 
@@ -108,7 +109,7 @@ clrsint0 = record { fits = omega arith; done = λ s v. write-code s 0x0B v; afte
 abbrev pub flagsWritten : ℕ → State → ℕ → State
 flagsWritten o s v = withStatus (statusA false false (s .registers .sxfrctl1 .enspchk) (s .keptbad) (s .status) (Write o v)) s
 
-pub clrsint1 : Does 0x0C (λ (s : State) (v : ℕ). withLatches (latchesA (s .latches) (Write 0x0C v)) (flagsWritten 0x0C (storing 0x0C s v) v))
+pub clrsint1 : Does 0x0C (λ (s : State) (v : ℕ). withLatches (latchesA (s .latches) (Write 0x0C v)) (flagsWritten 0x0C (storing 0x0C (sequencing 0x0C s v) v) v))
 unfolding Leaving
 clrsint1 = record { fits = omega arith; done = λ s v. write-code s 0x0C v; after = λ s v. refl }
 

@@ -58,12 +58,12 @@ module _ {m : List ℕ} (g : IsImage m) (o : ℕ) (f : o < 32) (d : accessCode (
   fits : InRange (unheld s o)
   fits =
       let a = a-fits g (Read o) f d in
-      record { registers = a .registers; transfer = a .transfer; stack = a .stack; quiet = a .quiet; identity = a .identity }
+      record { registers = a .registers; transfer = a .transfer; stack = a .stack; quiet = a .quiet; identity = a .identity; sequencer = a .sequencer }
 
   bytes : InBytes (unheld s o)
   bytes =
       let a = a-bytes g (Read o) f d in
-      record { lines = a .lines; registers = a .registers; transfer = a .transfer; stack = a .stack }
+      record { lines = a .lines; registers = a .registers; transfer = a .transfer; stack = a .stack; selid = a .selid }
 
   module _ {m1 : List ℕ} (e1 : m1 ≡ imageOf (unheld s o)) where
     pub unheld-image : IsImage m1

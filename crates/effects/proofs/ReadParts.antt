@@ -12,7 +12,7 @@ use Rattle.rules.specs.Map.{table, readAt}
 use Rattle.rules.specs.Events.{writes, reads, linesAfter, asked, portWrite}
 use Rattle.rules.specs.Stack.{stackRead, stackByte}
 use Rattle.rules.specs.Reads.{scsibus, idBytes, readOf, valueRead}
-use Rattle.rules.specs.StepA.{clears, clearsLatch, clrstcnt, clrch, rstfifo, latchAccess, automaticAck, registersA, hostA, counterA, transferA, latchesA, stackA, identityA, afterA}
+use Rattle.rules.specs.StepA.{clears, clearsLatch, clrstcnt, clrch, rstfifo, latchAccess, automaticAck, registersA, hostA, counterA, transferA, latchesA, stackA, identityA, sequencerA, givesUp, selectionA, notedA, selectionLatchesA, afterA}
 use Rattle.rules.specs.declared.map.Register.{Register}
 use Rattle.rules.specs.declared.map.Mapped.the-variants.{Present}
 use Rattle.rules.specs.declared.records.Event.the-variants.{Read}
@@ -25,19 +25,19 @@ use Rattle.effects.proofs.ReadLaws.{unheld}
 
 module _ (s : State) where
   pub port-left : withHost (drop 1 (s .transfer .host)) s ≡ unheld s 0x16
-  unfolding afterA linesAfter registersA transferA hostA counterA latchesA stackA identityA clears clearsLatch clrstcnt clrch rstfifo latchAccess automaticAck writes reads asked portWrite
+  unfolding afterA linesAfter registersA transferA hostA counterA latchesA stackA identityA sequencerA givesUp selectionA notedA selectionLatchesA clears clearsLatch clrstcnt clrch rstfifo latchAccess automaticAck writes reads asked portWrite
   port-left = refl
 
   pub latch-left : {acked : Bool} → acked ≡ automaticAck s (Read 0x06) → ackCounted acked s ≡ unheld s 0x06
-  unfolding afterA linesAfter registersA transferA hostA counterA latchesA stackA identityA clears clearsLatch clrstcnt clrch rstfifo writes reads asked portWrite
+  unfolding afterA linesAfter registersA transferA hostA counterA latchesA stackA identityA sequencerA givesUp selectionA notedA selectionLatchesA clears clearsLatch clrstcnt clrch rstfifo writes reads asked portWrite
   latch-left q = ap (λ (b : Bool). ackCounted b s) q
 
   pub stack-left : withStack (stackRead (s .registers .dmacntrl1 .enstk32) (s .stack)) s ≡ unheld s 0x1D
-  unfolding afterA linesAfter registersA transferA hostA counterA latchesA stackA identityA clears clearsLatch clrstcnt clrch rstfifo latchAccess automaticAck writes reads asked portWrite
+  unfolding afterA linesAfter registersA transferA hostA counterA latchesA stackA identityA sequencerA givesUp selectionA notedA selectionLatchesA clears clearsLatch clrstcnt clrch rstfifo latchAccess automaticAck writes reads asked portWrite
   stack-left = refl
 
   pub identity-left : withIdentity ((s .identity + 1) % 32) s ≡ unheld s 0x1F
-  unfolding afterA linesAfter registersA transferA hostA counterA latchesA stackA identityA clears clearsLatch clrstcnt clrch rstfifo latchAccess automaticAck writes reads asked portWrite
+  unfolding afterA linesAfter registersA transferA hostA counterA latchesA stackA identityA sequencerA givesUp selectionA notedA selectionLatchesA clears clearsLatch clrstcnt clrch rstfifo latchAccess automaticAck writes reads asked portWrite
   identity-left = refl
 
   pub port-value : getD (s .transfer .host) 0 0 ≡ valueRead s (Read 0x16)
@@ -67,7 +67,7 @@ module _ (s : State) where
 
     -- a register that a read leaves as it is
     pub plain-left : eqb o 0x16 ≡ false → eqb o 0x1D ≡ false → eqb o 0x1F ≡ false → s ≡ unheld s o
-    unfolding afterA linesAfter registersA transferA hostA counterA latchesA stackA identityA clears clearsLatch clrstcnt clrch rstfifo writes reads asked portWrite
+    unfolding afterA linesAfter registersA transferA hostA counterA latchesA stackA identityA sequencerA givesUp selectionA notedA selectionLatchesA clears clearsLatch clrstcnt clrch rstfifo writes reads asked portWrite
     plain-left p k i = rw (← unacked, p, k, i)
 
   pub plain-value : (o : ℕ) (r : Register) → readAt o ≡ Present r → readOf s r ≡ valueRead s (Read o)

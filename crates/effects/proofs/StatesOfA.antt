@@ -13,7 +13,7 @@ use Rattle.rules.specs.declared.registers.Registers.{Registers}
 use Rattle.rules.specs.declared.codes.Code.the-variants.{Done}
 use Rattle.rules.specs.declared.records.Event.{Event}
 use Rattle.rules.specs.declared.records.Event.the-variants.{Write}
-use Rattle.rules.specs.Changed.{withLines, withRegisters, withTransfer, withStatus, withLatches, withStack}
+use Rattle.rules.specs.Changed.{withLines, withRegisters, withTransfer, withStatus, withLatches, withStack, withSequencer}
 use Rattle.image.specs.Image.{imageOf, stateAt, IsImage}
 use Rattle.effects.specs.declared.Acted.{Acted}
 use Rattle.effects.specs.Acting.{Acts, doneWith}
@@ -37,16 +37,16 @@ module _ {m : List ℕ} {t : State} (r : Reached m t) where
   flagged accessed acked k h =
       record {
         image = onward (λ (x : State). withStatus (statusA accessed acked (x .registers .sxfrctl1 .enspchk) (x .keptbad) (x .status) k) x) t (r .image) (r .range) (r .bytes) h;
-        range = record { registers = r .range .registers; transfer = r .range .transfer; stack = r .range .stack; quiet = r .range .quiet; identity = r .range .identity };
-        bytes = record { lines = r .bytes .lines; registers = r .bytes .registers; transfer = r .bytes .transfer; stack = r .bytes .stack };
+        range = record { registers = r .range .registers; transfer = r .range .transfer; stack = r .range .stack; quiet = r .range .quiet; identity = r .range .identity; sequencer = r .range .sequencer };
+        bytes = record { lines = r .bytes .lines; registers = r .bytes .registers; transfer = r .bytes .transfer; stack = r .bytes .stack; selid = r .bytes .selid };
       }
 
   pub unlatched : (k : Event) {n : List ℕ} → n ≡ imageOf (withLatches (latchesA ((stateAt m) .latches) k) (stateAt m)) → Reached n (withLatches (latchesA (t .latches) k) t)
   unlatched k h =
       record {
         image = onward (λ (x : State). withLatches (latchesA (x .latches) k) x) t (r .image) (r .range) (r .bytes) h;
-        range = record { registers = r .range .registers; transfer = r .range .transfer; stack = r .range .stack; quiet = r .range .quiet; identity = r .range .identity };
-        bytes = record { lines = r .bytes .lines; registers = r .bytes .registers; transfer = r .bytes .transfer; stack = r .bytes .stack };
+        range = record { registers = r .range .registers; transfer = r .range .transfer; stack = r .range .stack; quiet = r .range .quiet; identity = r .range .identity; sequencer = r .range .sequencer };
+        bytes = record { lines = r .bytes .lines; registers = r .bytes .registers; transfer = r .bytes .transfer; stack = r .bytes .stack; selid = r .bytes .selid };
       }
 
 -- an event that is done, and the state that it leaves
@@ -71,32 +71,40 @@ module _ {b : List ℕ} {e : Event} {w : State} (l : Leaves b e w) where
           image =
               onward (λ (x : State). withRegisters (registersA (x .registers) e) x) t (r .image) (r .range) (r .bytes) h
               ∙ ap (λ (x : Registers). imageOf (withRegisters x t)) q;
-          range = record { registers = range-left .registers; transfer = r .range .transfer; stack = r .range .stack; quiet = r .range .quiet; identity = r .range .identity };
-          bytes = record { lines = r .bytes .lines; registers = bytes-left .registers; transfer = r .bytes .transfer; stack = r .bytes .stack };
+          range = record { registers = range-left .registers; transfer = r .range .transfer; stack = r .range .stack; quiet = r .range .quiet; identity = r .range .identity; sequencer = r .range .sequencer };
+          bytes = record { lines = r .bytes .lines; registers = bytes-left .registers; transfer = r .bytes .transfer; stack = r .bytes .stack; selid = r .bytes .selid };
         }
 
     pub carried : n ≡ imageOf (withTransfer (w .transfer) t) → Reached n (withTransfer (w .transfer) t)
     carried h =
         record {
           image = h;
-          range = record { registers = r .range .registers; transfer = range-left .transfer; stack = r .range .stack; quiet = r .range .quiet; identity = r .range .identity };
-          bytes = record { lines = r .bytes .lines; registers = r .bytes .registers; transfer = bytes-left .transfer; stack = r .bytes .stack };
+          range = record { registers = r .range .registers; transfer = range-left .transfer; stack = r .range .stack; quiet = r .range .quiet; identity = r .range .identity; sequencer = r .range .sequencer };
+          bytes = record { lines = r .bytes .lines; registers = r .bytes .registers; transfer = bytes-left .transfer; stack = r .bytes .stack; selid = r .bytes .selid };
         }
 
     pub stacked : n ≡ imageOf (withStack (w .stack) t) → Reached n (withStack (w .stack) t)
     stacked h =
         record {
           image = h;
-          range = record { registers = r .range .registers; transfer = r .range .transfer; stack = range-left .stack; quiet = r .range .quiet; identity = r .range .identity };
-          bytes = record { lines = r .bytes .lines; registers = r .bytes .registers; transfer = r .bytes .transfer; stack = bytes-left .stack };
+          range = record { registers = r .range .registers; transfer = r .range .transfer; stack = range-left .stack; quiet = r .range .quiet; identity = r .range .identity; sequencer = r .range .sequencer };
+          bytes = record { lines = r .bytes .lines; registers = r .bytes .registers; transfer = r .bytes .transfer; stack = bytes-left .stack; selid = r .bytes .selid };
+        }
+
+    pub sequenced : n ≡ imageOf (withSequencer (w .sequencer) t) → Reached n (withSequencer (w .sequencer) t)
+    sequenced h =
+        record {
+          image = h;
+          range = record { registers = r .range .registers; transfer = r .range .transfer; stack = r .range .stack; quiet = r .range .quiet; identity = r .range .identity; sequencer = range-left .sequencer };
+          bytes = record { lines = r .bytes .lines; registers = r .bytes .registers; transfer = r .bytes .transfer; stack = r .bytes .stack; selid = bytes-left .selid };
         }
 
     pub driven : n ≡ imageOf (withLines (w .lines) t) → Reached n (withLines (w .lines) t)
     driven h =
         record {
           image = h;
-          range = record { registers = r .range .registers; transfer = r .range .transfer; stack = r .range .stack; quiet = r .range .quiet; identity = r .range .identity };
-          bytes = record { lines = bytes-left .lines; registers = r .bytes .registers; transfer = r .bytes .transfer; stack = r .bytes .stack };
+          range = record { registers = r .range .registers; transfer = r .range .transfer; stack = r .range .stack; quiet = r .range .quiet; identity = r .range .identity; sequencer = r .range .sequencer };
+          bytes = record { lines = bytes-left .lines; registers = r .bytes .registers; transfer = r .bytes .transfer; stack = r .bytes .stack; selid = r .bytes .selid };
         }
 
   -- all of what it leaves

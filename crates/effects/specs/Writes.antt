@@ -10,18 +10,22 @@ use Rattle.rules.specs.State.{State}
 use Rattle.rules.specs.Codes.{accessCode}
 use Rattle.rules.specs.Counter.{counterStep}
 use Rattle.rules.specs.Events.{writes, reads, valueOf, linesAfter, offered, asked, portWrite}
-use Rattle.rules.specs.StepA.{latchAccess, automaticAck, registersA, transferA, hostA, counterA, errorA, statusA, latchesA, stackA, identityA, afterA, clears, clearsLatch, clearsError, clrstcnt, clrch, rstfifo}
+use Rattle.rules.specs.StepA.{latchAccess, automaticAck, registersA, transferA, hostA, counterA, errorA, statusA, latchesA, stackA, identityA, sequencerA, givesUp, selectionA, notedA, selectionLatchesA, afterA, clears, clearsLatch, clearsError, clrstcnt, clrch, rstfifo}
 use Rattle.rules.specs.declared.codes.Code.the-variants.{Done}
 use Rattle.rules.specs.declared.counts.Direction.the-variants.{Up}
 use Rattle.rules.specs.declared.map.Register.{Register}
 use Rattle.rules.specs.declared.records.Event.the-variants.{Write, WordRead}
-use Rattle.rules.specs.Changed.{withRegisters, withStatus}
+use Rattle.rules.specs.Changed.{withRegisters, withStatus, withSequencer}
 use Rattle.rules.specs.Changed.{withHost, withScsi, withCounter, withOffset, withAck}
 use Rattle.writes.specs.WrittenRegister.{Written}
 
 -- what is written is stored
 abbrev pub storing : ℕ → State → ℕ → State
 storing o s v = withRegisters (registersA (s .registers) (Write o v)) s
+
+-- R-1: the sequencer by a write, before it is stored
+abbrev pub sequencing : ℕ → State → ℕ → State
+sequencing o s v = withSequencer (sequencerA (s .registers) (s .quiet) (s .sequencer) (Write o v)) s
 
 -- "While ENSPCHK is 0, SCSIPERR is held at 0"
 abbrev pub kept : State → State
@@ -46,7 +50,7 @@ ackCounted acked s =
 
 -- the state after a write at o; its unfolding is all that A looks at
 unfoldable pub Leaving : ℕ → (State → ℕ → State) → Type 0
-unfolding table writtenAt writes reads valueOf linesAfter offered asked portWrite latchAccess automaticAck registersA transferA hostA counterA errorA statusA latchesA stackA identityA afterA clears clearsLatch clearsError clrstcnt clrch rstfifo
+unfolding table writtenAt writes reads valueOf linesAfter offered asked portWrite latchAccess automaticAck registersA transferA hostA counterA errorA statusA latchesA stackA identityA sequencerA givesUp selectionA notedA selectionLatchesA afterA clears clearsLatch clearsError clrstcnt clrch rstfifo
 Leaving o left = (s : State) (v : ℕ) → left s v ≡ afterA s (Write o v)
 
 -- a write at o is done, and that is the state after it
@@ -59,3 +63,8 @@ pub record Does (o : ℕ) (left : State → ℕ → State) : Type 0 where
 pub record Plain (register : Register) : Type 0 where
   pub written : Written register
   pub does : Does (offsetOf register) (λ (s : State) (v : ℕ). kept (storing (offsetOf register) s v))
+
+-- a register that moves the sequencer, and is stored
+pub record Selects (register : Register) : Type 0 where
+  pub written : Written register
+  pub does : Does (offsetOf register) (λ (s : State) (v : ℕ). kept (storing (offsetOf register) (sequencing (offsetOf register) s v) v))

@@ -6,7 +6,7 @@ ghost use Rattle.rules.specs.declared.records.Event.the-variants.{Write};
 ghost use Rattle.image.specs.Image.{IsImage, imageOf, stateAt};
 ghost use Rattle.writes.specs.WrittenRegister.{Written};
 ghost use Rattle.effects.specs.Acting.{Acts};
-ghost use Rattle.effects.specs.Writes.{Plain, channelCleared, counterCleared, hostCleared};
+ghost use Rattle.effects.specs.Writes.{Plain, Selects, channelCleared, counterCleared, hostCleared};
 use crate::Acted;
 use crate::absent;
 use crate::clearing::errors_cleared;
@@ -28,6 +28,7 @@ use rules::codes::Code;
 use rules::map::Mapped;
 use rules::map::Register;
 use rules::records::Event;
+use writes::selecting::sequencer_written_in;
 use writes::stacking::pointed;
 use writes::stacking::pushed;
 use writes::storing::stored;
@@ -38,6 +39,18 @@ fn plain_written(m: &mut Image, register: Register, value: u8) -> Acted
     requires { ⌜ Plain register ⌝ }
     ensures { λ r. ⌜ Acts (stateAt (now (m .entry))) (Write (offsetOf register) value) (now (m .exit)) r ⌝ }
 {
+    stored(m, register, value);
+    status_kept_in(m, false, false);
+    done_with(0, 0)
+}
+
+// R-1: 340h, 350h and 351h. The sequencer comes first, since a latch looks at the enables before the write.
+fn selection_written(m: &mut Image, register: Register, value: u8) -> Acted
+    requires { ⌜ IsImage (now m) ⌝ }
+    requires { ⌜ Selects register ⌝ }
+    ensures { λ r. ⌜ Acts (stateAt (now (m .entry))) (Write (offsetOf register) value) (now (m .exit)) r ⌝ }
+{
+    sequencer_written_in(m, register, value);
     stored(m, register, value);
     status_kept_in(m, false, false);
     done_with(0, 0)
@@ -175,7 +188,7 @@ fn write_found(m: &mut Image, register: Register, value: u8) -> Acted
     ensures { λ r. ⌜ Acts (stateAt (now (m .entry))) (Write (offsetOf register) value) (now (m .exit)) r ⌝ }
 {
     match register {
-        Register::SCSISEQ => plain_written(m, Register::SCSISEQ, value),
+        Register::SCSISEQ => selection_written(m, Register::SCSISEQ, value),
         Register::SXFRCTL0 => transfer_control(m, value),
         Register::SXFRCTL1 => plain_written(m, Register::SXFRCTL1, value),
         Register::SCSISIGO => plain_written(m, Register::SCSISIGO, value),
@@ -189,8 +202,8 @@ fn write_found(m: &mut Image, register: Register, value: u8) -> Acted
         Register::CLRSINT1 => interrupts_cleared(m, value),
         Register::SCSITEST => test_written(m, value),
         Register::CLRSERR => errors_cleared(m, value),
-        Register::SIMODE0 => plain_written(m, Register::SIMODE0, value),
-        Register::SIMODE1 => plain_written(m, Register::SIMODE1, value),
+        Register::SIMODE0 => selection_written(m, Register::SIMODE0, value),
+        Register::SIMODE1 => selection_written(m, Register::SIMODE1, value),
         Register::DMACNTRL0 => dma_control(m, value),
         Register::DMACNTRL1 => stack_control(m, value),
         Register::DMADATA => byte_written(m, value),

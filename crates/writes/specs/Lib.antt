@@ -1,1 +1,2 @@
+pub mod SequencerWritten
 pub mod WrittenRegister

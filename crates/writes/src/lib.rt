@@ -6,6 +6,7 @@ ghost use Rattle.image.specs.Image.{IsImage, imageOf, stateAt};
 use image::layout::IDENTITY;
 use image::layout::Image;
 
+pub mod selecting;
 pub mod stacking;
 pub mod storing;
 

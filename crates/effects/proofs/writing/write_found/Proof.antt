@@ -5,43 +5,43 @@ use Rattle.effects.proofs.writing.write_found.Statement.{statement}
 use Rattle.effects.proofs.writing.write_found.Tie as tie
 
 -- SCSISEQ
-plain-written-requires : tie.Need-plain-written-requires
-plain-written-requires c κs = (c .before .before .before .pre .0, scsiseq)
+selection-written-requires : tie.Need-selection-written-requires
+selection-written-requires c κs = (c .before .before .before .pre .0, scsiseq)
 
 returns : tie.Need-returns
-returns c = rw (c .before .before .enum-told .given .1) (c .plain-written .ensures)
+returns c = rw (c .before .before .enum-told .given .1) (c .selection-written .ensures)
 
 -- SXFRCTL0
 returns-2 : tie.Need-returns-2
 returns-2 c = rw (c .before .before .enum-told2 .given .1) (c .transfer-control .ensures)
 
 -- SXFRCTL1
-plain-written-requires-2 : tie.Need-plain-written-requires-2
-plain-written-requires-2 c κs = (c .before .before .before .pre .0, sxfrctl1)
+plain-written-requires : tie.Need-plain-written-requires
+plain-written-requires c κs = (c .before .before .before .pre .0, sxfrctl1)
 
 returns-3 : tie.Need-returns-3
-returns-3 c = rw (c .before .before .enum-told3 .given .1) (c .plain-written2 .ensures)
+returns-3 c = rw (c .before .before .enum-told3 .given .1) (c .plain-written .ensures)
 
 -- SCSISIGO
-plain-written-requires-3 : tie.Need-plain-written-requires-3
-plain-written-requires-3 c κs = (c .before .before .before .pre .0, scsisigo)
+plain-written-requires-2 : tie.Need-plain-written-requires-2
+plain-written-requires-2 c κs = (c .before .before .before .pre .0, scsisigo)
 
 returns-4 : tie.Need-returns-4
-returns-4 c = rw (c .before .before .enum-told4 .given .1) (c .plain-written3 .ensures)
+returns-4 c = rw (c .before .before .enum-told4 .given .1) (c .plain-written2 .ensures)
 
 -- SCSIRATE
-plain-written-requires-4 : tie.Need-plain-written-requires-4
-plain-written-requires-4 c κs = (c .before .before .before .pre .0, scsirate)
+plain-written-requires-3 : tie.Need-plain-written-requires-3
+plain-written-requires-3 c κs = (c .before .before .before .pre .0, scsirate)
 
 returns-5 : tie.Need-returns-5
-returns-5 c = rw (c .before .before .enum-told5 .given .1) (c .plain-written4 .ensures)
+returns-5 c = rw (c .before .before .enum-told5 .given .1) (c .plain-written3 .ensures)
 
 -- SCSIID
-plain-written-requires-5 : tie.Need-plain-written-requires-5
-plain-written-requires-5 c κs = (c .before .before .before .pre .0, scsiid)
+plain-written-requires-4 : tie.Need-plain-written-requires-4
+plain-written-requires-4 c κs = (c .before .before .before .pre .0, scsiid)
 
 returns-6 : tie.Need-returns-6
-returns-6 c = rw (c .before .before .enum-told6 .given .1) (c .plain-written5 .ensures)
+returns-6 c = rw (c .before .before .enum-told6 .given .1) (c .plain-written4 .ensures)
 
 -- SCSIDAT
 returns-7 : tie.Need-returns-7
@@ -76,18 +76,18 @@ returns-14 : tie.Need-returns-14
 returns-14 c = rw (c .before .before .enum-told14 .given .1) (c .errors-cleared .ensures)
 
 -- SIMODE0
-plain-written-requires-6 : tie.Need-plain-written-requires-6
-plain-written-requires-6 c κs = (c .before .before .before .pre .0, simode0)
+selection-written-requires-2 : tie.Need-selection-written-requires-2
+selection-written-requires-2 c κs = (c .before .before .before .pre .0, simode0)
 
 returns-15 : tie.Need-returns-15
-returns-15 c = rw (c .before .before .enum-told15 .given .1) (c .plain-written6 .ensures)
+returns-15 c = rw (c .before .before .enum-told15 .given .1) (c .selection-written2 .ensures)
 
 -- SIMODE1
-plain-written-requires-7 : tie.Need-plain-written-requires-7
-plain-written-requires-7 c κs = (c .before .before .before .pre .0, simode1)
+selection-written-requires-3 : tie.Need-selection-written-requires-3
+selection-written-requires-3 c κs = (c .before .before .before .pre .0, simode1)
 
 returns-16 : tie.Need-returns-16
-returns-16 c = rw (c .before .before .enum-told16 .given .1) (c .plain-written7 .ensures)
+returns-16 c = rw (c .before .before .enum-told16 .given .1) (c .selection-written3 .ensures)
 
 -- DMACNTRL0
 returns-17 : tie.Need-returns-17
@@ -102,11 +102,11 @@ returns-19 : tie.Need-returns-19
 returns-19 c = rw (c .before .before .enum-told19 .given .1) (c .byte-written .ensures)
 
 -- BRSTCNTRL
-plain-written-requires-8 : tie.Need-plain-written-requires-8
-plain-written-requires-8 c κs = (c .before .before .before .pre .0, brstcntrl)
+plain-written-requires-5 : tie.Need-plain-written-requires-5
+plain-written-requires-5 c κs = (c .before .before .before .pre .0, brstcntrl)
 
 returns-20 : tie.Need-returns-20
-returns-20 c = rw (c .before .before .enum-told20 .given .1) (c .plain-written8 .ensures)
+returns-20 c = rw (c .before .before .enum-told20 .given .1) (c .plain-written5 .ensures)
 
 -- STACK
 returns-21 : tie.Need-returns-21
@@ -123,26 +123,26 @@ pub write-found-spec : {M : Type 1} → statement M
 write-found-spec =
     tie.close
     (tie.spec
-    (λ c. search needs) plain-written-requires
+    (λ c. search needs) selection-written-requires
     (λ c. search needs) (λ c κs. search needs)
+    (λ c. search needs) plain-written-requires
     (λ c. search needs) plain-written-requires-2
     (λ c. search needs) plain-written-requires-3
     (λ c. search needs) plain-written-requires-4
+    (λ c. search needs) (λ c κs. search needs)
+    (λ c. search needs) (λ c κs. search needs)
+    (λ c. search needs) (λ c κs. search needs)
+    (λ c. search needs) (λ c κs. search needs)
+    (λ c. search needs) (λ c κs. search needs)
+    (λ c. search needs) (λ c κs. search needs)
+    (λ c. search needs) (λ c κs. search needs)
+    (λ c. search needs) (λ c κs. search needs)
+    (λ c. search needs) selection-written-requires-2
+    (λ c. search needs) selection-written-requires-3
+    (λ c. search needs) (λ c κs. search needs)
+    (λ c. search needs) (λ c κs. search needs)
+    (λ c. search needs) (λ c κs. search needs)
     (λ c. search needs) plain-written-requires-5
-    (λ c. search needs) (λ c κs. search needs)
-    (λ c. search needs) (λ c κs. search needs)
-    (λ c. search needs) (λ c κs. search needs)
-    (λ c. search needs) (λ c κs. search needs)
-    (λ c. search needs) (λ c κs. search needs)
-    (λ c. search needs) (λ c κs. search needs)
-    (λ c. search needs) (λ c κs. search needs)
-    (λ c. search needs) (λ c κs. search needs)
-    (λ c. search needs) plain-written-requires-6
-    (λ c. search needs) plain-written-requires-7
-    (λ c. search needs) (λ c κs. search needs)
-    (λ c. search needs) (λ c κs. search needs)
-    (λ c. search needs) (λ c κs. search needs)
-    (λ c. search needs) plain-written-requires-8
     (λ c. search needs) (λ c κs. search needs)
     (λ c. search needs) (λ c κs. search needs)
     (λ c κs. search needs)

@@ -6,8 +6,7 @@ use Rattle.rules.specs.declared.registers.Dmacntrl1.{Dmacntrl1}
 use Rattle.rules.specs.declared.map.Mapped.the-variants.{Present}
 use Rattle.rules.specs.declared.records.Event.the-variants.{Write}
 use Rattle.image.specs.Image.{stateAt, scsisigByte}
-use Rattle.writes.proofs.Arms.{other}
-use Rattle.writes.proofs.StoringRegisters.{plain, unstored, same-register}
+use Rattle.writes.proofs.StoringRegisters.{plain, far-from, unstored}
 use Rattle.writes.proofs.RegisterStores.{put-scsiseq, put-sxfrctl0, put-sxfrctl1, put-scsisigo, put-scsirate, put-scsiid, put-scsidat, put-clrsint1, put-simode0, put-simode1, put-dmacntrl0, put-dmacntrl1, put-brstcntrl, unchanged}
 use Rattle.writes.proofs.storing.stored.Statement.{statement}
 use Rattle.writes.proofs.storing.stored.Tie as tie
@@ -83,8 +82,8 @@ returns-14 c =
     let x = c .before .args in
     let s = stateAt (x .m .now) in
     unchanged (Write (offsetOf (x .register)) (x .value)) (x .m .now) (c .before .pre .0)
-    (unstored (s .registers) (offsetOf (x .register)) (x .value) (Present (x .register)) (c .before .pre .1)
-    (λ k t e. other plain (x .register) k (c .match .keys14) t (same-register (x .register) k e)))
+    (unstored (offsetOf (x .register)) (x .value) (Present (x .register)) (c .before .pre .1) (s .registers)
+    (far-from plain (x .register) (c .match .keys14)))
 
 pub stored-spec : {M : Type 1} → statement M
 stored-spec =
