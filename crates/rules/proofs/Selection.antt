@@ -16,7 +16,8 @@ use Rattle.rules.specs.Step.{ended, done, access, singleTicks, ticksTake
 use Rattle.rules.specs.Changed.{withQuiet}
 use Rattle.rules.specs.Seen.{phaseNumber, isPhase, phaseBsy, phaseSel, phaseDrives, phaseData, rstSeen, bsySeen, selSeen, ackDriven, byteDriven, dataDriven}
 use Rattle.rules.specs.Events.{writes, ticksOf, linesAfter}
-use Rattle.rules.specs.Sequencer.{busFreeDelay, arbitrationDelay, clearingDelay, settleDelay, timeout, askedBy, selectionAsked, called, higherId, Sequenced, sequencedOf, waited, entered, selectionWith, selingoCleared, selingoRaised, seltoRaised, seldoRaised, seldiRaised, selectionFreed, silenced, arbitrates, waitingFor, arbitratingFor, selects, clearingFor, timesOut, selectingFor, reselected, answeringFor, tickIn, uncalled, letGo, forestalled, connects, selected, begun, withdrawn, answers, resolved, sequenced}
+use Rattle.rules.specs.Sequencer.{busFreeDelay, arbitrationDelay, clearingDelay, settleDelay, timeout, askedBy, selectionAsked, called, higherId, sequencedOf, waited, entered, selectionWith, selingoCleared, selingoRaised, seltoRaised, seldoRaised, seldiRaised, selectionFreed, silenced, arbitrates, waitingFor, arbitratingFor, selects, clearingFor, timesOut, selectingFor, reselected, answeringFor, tickIn, uncalled, letGo, forestalled, connects, selected, begun, withdrawn, answers, resolved, sequenced}
+use Rattle.rules.specs.declared.chip.Sequenced.{Sequenced}
 use Rattle.rules.specs.StepA.{clears, clearsLatch, registersA, givesUp, selectionA, notedA, sequencerA, afterA}
 use Rattle.rules.specs.StepB.{reqFalls, ackReleased, afterReqFalls, rstRises, busReset, afterRstRises, reqRises, reqRisen, afterReqRises, quietAfter, busFree, busFreed, afterQuietTicks, phaseChanges, phaseChanged, afterPhaseChanges, afterSequencer, firstFour, inOrder, afterB, atReq}
 use Rattle.rules.specs.StepD.{finished, afterD}

@@ -16,7 +16,8 @@ use Rattle.rules.specs.Seen.{phaseNumber, isPhase, phaseBsy, phaseSel, p
 use Rattle.rules.specs.Events.{writes, ticksOf, linesAfter, offered, asked, portWrite, portRead}
 use Rattle.rules.specs.Codes.{absent, testValue, shut, noRoom, noBytes, accessCode}
 use Rattle.rules.specs.Step.{ended, done, access, singleTicks, ticksTaken, stepEvent}
-use Rattle.rules.specs.Sequencer.{timeout, called, Sequenced, sequencedOf, inTicks, inPhase, waited, entered, selectionWith, latchEnabled, seltoRaised, timesOut, selectingFor, tickIn, uncalled, letGo, forestalled, connects, selected, begun, withdrawn, answers, resolved, sequenced}
+use Rattle.rules.specs.Sequencer.{timeout, called, sequencedOf, inTicks, inPhase, waited, entered, selectionWith, latchEnabled, seltoRaised, timesOut, selectingFor, tickIn, uncalled, letGo, forestalled, connects, selected, begun, withdrawn, answers, resolved, sequenced}
+use Rattle.rules.specs.declared.chip.Sequenced.{Sequenced}
 use Rattle.rules.specs.StepA.{withAtn, clears, clearsLatch, registersA, givesUp, selectionA, notedA, selectionLatchesA, sequencerA, afterA}
 use Rattle.rules.specs.StepB.{reqFalls, afterReqFalls, rstRises, afterRstRises, reqRises, afterReqRises, quietAfter, busFree, afterQuietTicks, phaseChanges, phaseChanged, afterPhaseChanges, registersWith, scsiseqWith, afterSequencer, firstFour, inOrder, afterB}
 use Rattle.rules.specs.StepD.{finished, afterD}
