@@ -2,7 +2,7 @@
 ghost use mathlib.Core.Path.{_≡_};
 ghost use mathlib.Core.Bool.{_&&_, cond};
 ghost use Rattle.rules.specs.Numbers.{ones, even};
-ghost use Rattle.rules.specs.Seen.{normal};
+ghost use Rattle.rules.specs.Seen.{normal, driving};
 ghost use Rattle.rules.specs.Answers.{answerBytes, controlDriven};
 ghost use Rattle.image.specs.Image.{IsImage, stateAt, registersAt, transferAt};
 ghost use Rattle.reads.specs.Answering.{answerWith};
@@ -13,6 +13,7 @@ use image::bits::scsirsto;
 use image::bits::selo;
 use image::bus::ack_driven;
 use image::bus::driving;
+use image::bus::io_seen;
 use image::bus::normal;
 use image::layout::HOST_COUNT;
 use image::layout::Image;
@@ -25,6 +26,13 @@ use parity::parity_for;
 use rules::codes::Code;
 use rules::records::Answer;
 use wire::answer_bytes;
+
+// Whether data is driven: with IO seen it is not, and the mode need not be asked.
+fn is_driving(m: &Image) -> bool
+    ensures { λ b. ⌜ b ≡ driving (stateAt (now (m .entry))) ⌝ }
+{
+    if io_seen(m) { false } else { driving(m) }
+}
 
 // "Undriven data and parity are 0.": whether data is driven is judged once, by the caller.
 fn byte_driven(m: &Image, driving: bool) -> u8
@@ -61,7 +69,7 @@ pub fn answer_of(m: &Image, code: Code, value: u16, moves: u8, acks: u8, sent: [
     ensures { λ r. ⌜ r ≡ answerBytes (answerWith (stateAt (now (m .entry))) code value moves acks sent) ⌝ }
 {
     let irq = irq(m);
-    let driving = driving(m);
+    let driving = is_driving(m);
     let driven = byte_driven(m, driving);
     let parity = parity_of(driving, driven);
     let control = control_driven(m);
