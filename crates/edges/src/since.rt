@@ -50,14 +50,18 @@ fn before_of(x: Seen) -> Before
     last_seen(&a)
 }
 
+// The lines come first: in a line event it is they that changed.
 fn is_same(m: &Image, x: Seen) -> bool
     ensures { λ b. ⌜ b ≡ (eqb (getD (now (m .entry)) controlPlace 0) (x .control) && eqb (getD (now (m .entry)) scsisigPlace 0) (x .sig) && eqb (getD (now (m .entry)) upperPlace 0) (x .upper) && eqb (getD (now (m .entry)) scsiseqPlace 0) (x .seq) && eqb (getD (now (m .entry)) sequencerPlace 0) (x .sequencer)) ⌝ }
 {
-    (m[LINES_CONTROL] == x.control)
-        & (m[SCSISIG] == x.sig)
-        & (m[LINES_UPPER] == x.upper)
-        & (m[SCSISEQ] == x.seq)
-        & (m[SEQUENCER] == x.sequencer)
+    if m[LINES_CONTROL] == x.control {
+        (m[SCSISIG] == x.sig)
+            & (m[LINES_UPPER] == x.upper)
+            & (m[SCSISEQ] == x.seq)
+            & (m[SEQUENCER] == x.sequencer)
+    } else {
+        false
+    }
 }
 
 // The five steps on an image; whether a REQ went beyond the limit.

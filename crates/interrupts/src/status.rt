@@ -1,7 +1,7 @@
 // The status byte.
 ghost use mathlib.Core.Path.{_≡_};
 ghost use mathlib.Core.Bool.{false, _&&_, cond};
-ghost use Rattle.rules.specs.Seen.{ackSeen};
+ghost use Rattle.rules.specs.Seen.{ackSeen, automatic};
 ghost use Rattle.rules.specs.StepA.{statusA};
 ghost use Rattle.rules.specs.StepD.{fifoConflict, pioReady, statusRaised, statusD};
 ghost use Rattle.rules.specs.declared.records.Event.the-variants.{Write, WordRead};
@@ -13,6 +13,7 @@ use image::bits::kept_bad;
 use image::bits::reqinit;
 use image::bits::scsien;
 use image::bits::scsiperr;
+use image::bits::spiordy;
 use image::bus::ack_seen;
 use image::bus::automatic;
 use image::bus::matched;
@@ -138,11 +139,21 @@ fn pio_ready(m: &Image) -> bool
     }
 }
 
+// SPIORDY is set, and in Automatic mode FWERR does not rise: nothing is left to rise.
+fn is_raised(m: &Image) -> bool
+    ensures { λ b. ⌜ b ≡ ((stateAt (now (m .entry))) .status .spiordy && automatic (registersAt (now (m .entry)))) ⌝ }
+{
+    if spiordy(m) { automatic(m) } else { false }
+}
+
 // What each status rose to in the event: SPIORDY in Automatic mode, or FWERR in Normal mode.
 pub fn raised_in(m: &mut Image)
     requires { ⌜ IsImage (now m) ⌝ }
     ensures { λ _. ⌜ now (m .exit) ≡ imageOf (withStatus (statusRaised (stateAt (now (m .entry)))) (stateAt (now (m .entry)))) ⌝ }
 {
+    if is_raised(m) {
+        return;
+    }
     if pio_ready(m) {
         let mut t = status_of(m[STATUS]);
         t.spiordy = true;

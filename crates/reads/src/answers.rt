@@ -2,7 +2,7 @@
 ghost use mathlib.Core.Path.{_≡_};
 ghost use mathlib.Core.Bool.{_&&_, _||_, cond, false};
 ghost use Rattle.rules.specs.Numbers.{ones, even, byteOf};
-ghost use Rattle.rules.specs.Seen.{ackDriven};
+ghost use Rattle.rules.specs.Seen.{ackDriven, driving};
 ghost use Rattle.rules.specs.Answers.{answerBytes, controlDriven};
 ghost use Rattle.image.specs.Image.{IsImage, stateAt};
 ghost use Rattle.reads.specs.Answering.{byteGiven, answerWith};
@@ -13,6 +13,7 @@ use image::bits::scsirsto;
 use image::bits::selo;
 use image::bus::ack_driven;
 use image::bus::driving;
+use image::bus::io_seen;
 use image::bus::normal;
 use image::layout::HOST_COUNT;
 use image::layout::Image;
@@ -42,6 +43,17 @@ fn byte_given(m: &Image) -> u8
         phase_data(p, m[SCSIID])
     } else {
         if normal(m) { m[LAST] } else { m[SCSIDAT] }
+    }
+}
+
+// Whether data is driven: with IO seen only the sequencer drives any, and the mode need not be asked.
+fn is_driving(m: &Image) -> bool
+    ensures { λ b. ⌜ b ≡ driving (stateAt (now (m .entry))) ⌝ }
+{
+    if io_seen(m) & !drives_data(phase(m)) {
+        false
+    } else {
+        driving(m)
     }
 }
 
@@ -90,7 +102,7 @@ pub fn answer_of(m: &Image, code: Code, value: u16, moves: u8, acks: u8, sent: [
     ensures { λ r. ⌜ r ≡ answerBytes (answerWith (stateAt (now (m .entry))) code value moves acks sent) ⌝ }
 {
     let irq = irq(m);
-    let driving = driving(m);
+    let driving = is_driving(m);
     let driven = byte_driven(m, driving);
     let parity = parity_of(driving, driven);
     let control = control_driven(m);

@@ -95,6 +95,18 @@ module _ (P : State → Type 0) (k : Keeps P) where
         changed = k .changed;
       }
 
+  -- the four steps before the sequencer, from any state
+  pub four-keep : (last : State) (ticks : ℕ) (now : State) → P now → P (firstFour last ticks now)
+  unfolding firstFour
+  four-keep last ticks now p =
+      let a = afterReqFalls last now in
+      let b = afterRstRises last a in
+      let d = afterReqRises last b in
+      let fallen : P a = falls-keeps P last now p (k .released now) in
+      let reset : P b = reset-keeps P last a fallen (k .reset a) in
+      let risen : P d = rises-keeps P last b reset (k .risen b) in
+      ticks-make P (k .freed) ticks d (k .ticked d ticks risen)
+
   module _ (s : State) (e : Event) where
     rises : (n : State) → P n → P (afterReqRises s n)
     rises n p = rises-keeps P s n p (k .risen n)

@@ -24,7 +24,7 @@ use Rattle.rules.specs.Codes.{noRoom, accessCode, refusedValue, isDone}
 use Rattle.rules.specs.StepA.{clrstcnt, clrch, rstfifo, automaticAck, registersA, hostA, counterA, transferA, stackA, identityA, givesUp, sequencerA, afterA}
 use Rattle.rules.specs.declared.counts.Direction.{Direction}
 use Rattle.rules.specs.declared.counts.Direction.the-variants.{Up, Down}
-use Rattle.rules.specs.StepB.{ackReleased, registersWith, offsetCleared, busReset, beyondLimit, reqWithin, synchronousReq, storedByte, reqRisen, quietAfter, busFreed, scsiseqWith, afterSequencer, phaseChanged, afterB}
+use Rattle.rules.specs.StepB.{ackReleased, registersWith, offsetCleared, busReset, beyondLimit, reqWithin, synchronousReq, storedByte, reqRisen, quietAfter, busFreed, scsiseqWith, afterSequencer, phaseChanged, firstFour, afterB}
 use Rattle.rules.specs.Sequencer.{sequencedOf, waited, entered, selingoCleared, selingoRaised, seltoRaised, seldoRaised, seldiRaised, selectionFreed, silenced, arbitrates, selects, timesOut, reselected, connects, sequenced}
 use Rattle.rules.proofs.Sequencing.{Ticking, sequenced-keeps}
 use Rattle.rules.specs.declared.chip.Phase.{Phase}
@@ -57,7 +57,7 @@ use Rattle.rules.specs.declared.codes.Code.the-variants.{Done, Malformed
 use Rattle.rules.specs.declared.chip.Conditions.{Conditions}
 use Rattle.rules.specs.declared.chip.Stack.{Stack}
 use Rattle.rules.proofs.Logic.{never, left-true, right-true, cond-case}
-use Rattle.rules.proofs.InOrder.{Keeps, b-keeps}
+use Rattle.rules.proofs.InOrder.{Keeps, four-keep, b-keeps}
 use Rattle.rules.proofs.Refusals.{eight-codes, done-passed}
 use Rattle.rules.proofs.Rest.{move-inbound, move-full, handshake-full, Report, settling-reports}
 use Rattle.rules.proofs.Settling.{settle-keeps}
@@ -404,9 +404,9 @@ module _ (now : State) where
       (λ h. omega arith) (λ h. omega arith)
 
 -- what the sequencer leaves: the quiet ticks are at most 8, its own ticks below the longest timeout
-record SequencedFits (x : Sequenced) : Type 0 where
-  quiet : x .quiet ≤ 8
-  ticks : x .sequencer .ticks < counterSize
+pub record SequencedFits (x : Sequenced) : Type 0 where
+  pub quiet : x .quiet ≤ 8
+  pub ticks : x .sequencer .ticks < counterSize
 
 sequencing : (s : State) → Ticking s SequencedFits
 unfolding waited entered arbitrates selects timesOut reselected connects silenced selingoCleared selingoRaised seltoRaised seldoRaised seldiRaised
@@ -427,7 +427,7 @@ sequencing s =
           };
     }
 
-sequenced-fits : (s : State) (tick : Bool) (before : ℕ) → s .quiet ≤ 8 → s .sequencer .ticks < counterSize → SequencedFits (sequenced tick before s)
+pub sequenced-fits : (s : State) (tick : Bool) (before : ℕ) → s .quiet ≤ 8 → s .sequencer .ticks < counterSize → SequencedFits (sequenced tick before s)
 unfolding sequencedOf
 sequenced-fits s tick before q t =
     sequenced-keeps s SequencedFits (sequencing s) tick before (record { quiet = q; ticks = t })
@@ -556,6 +556,19 @@ after-b = b-keeps InRange range-keeps
 
 pub bytes-after-b : (s : State) (e : Event) → InBytes (afterA s e) → InBytes (afterB s e)
 bytes-after-b = b-keeps InBytes bytes-keeps
+
+-- and after each of its parts: the four steps before the sequencer, and the sequencer
+pub four-fits : (last : State) (ticks : ℕ) (now : State) → InRange now → InRange (firstFour last ticks now)
+four-fits = four-keep InRange range-keeps
+
+pub bytes-four : (last : State) (ticks : ℕ) (now : State) → InBytes now → InBytes (firstFour last ticks now)
+bytes-four = four-keep InBytes bytes-keeps
+
+pub sequencer-fits : (now : State) (tick : Bool) (before : ℕ) → InRange now → InRange (afterSequencer tick before now)
+sequencer-fits = range-keeps .sequenced
+
+pub bytes-sequencer : (now : State) (tick : Bool) (before : ℕ) → InBytes now → InBytes (afterSequencer tick before now)
+bytes-sequencer = bytes-keeps .sequenced
 
 -- settling keeps the data path in range
 module _ (c : Conditions) (s : Settling) where

@@ -224,7 +224,7 @@ silent-answers s q =
           ∙ (λ i.
           byteOf false false false (s .registers .scsisig .atno) (or-false (s .registers .scsisig .selo) i)
           (or-false (s .registers .scsisig .bsyo) i) false (ackDriven s));
-      driven = ap (λ (b : Bool). cond b (phaseData (s .sequencer .phase) (s .registers)) (byteDriven s)) (q .drives);
+      driven = ap (λ (b : Bool). cond b (phaseData (s .sequencer .phase) (s .registers .scsiid)) (byteDriven s)) (q .drives);
     }
 
 -- "IN EVERY EVENT, TICKS OR NOT"

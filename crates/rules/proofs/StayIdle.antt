@@ -1,6 +1,6 @@
 -- R-1: a sequencer that is idle stays idle while it is neither asked nor called, and RST makes it so.
 use Prim.Native.Nat.{ℕ}
-use mathlib.Core.Path.{_≡_, refl, ap, _∙_}
+use mathlib.Core.Path.{_≡_, refl, ap, sym, subst, _∙_}
 use mathlib.Core.Bool.{Bool, true, false, cond}
 use Rattle.rules.specs.State.{State}
 use Rattle.rules.specs.Changed.{withRegisters, withQuiet, withSequencer}
@@ -16,7 +16,7 @@ use Rattle.rules.specs.declared.chip.Phase.the-variants.{Idle, Waiting, 
 use Rattle.rules.specs.declared.chip.Sequencer.{Sequencer}
 use Rattle.rules.specs.declared.map.Register.the-variants.{SCSISEQ}
 use Rattle.rules.specs.declared.records.Event.{Event}
-use Rattle.rules.proofs.InOrder.{Spares, Keeps, before-req, b-keeps}
+use Rattle.rules.proofs.InOrder.{Spares, Keeps, before-req, four-keep, b-keeps}
 use Rattle.rules.proofs.Logic.{never, cond-case}
 
 -- "340h bits 6-4 clear and the sequencer idle"
@@ -212,3 +212,50 @@ module _ (s : State) (e : Event) (r : rstSeen (afterA s e) ≡ true) where
   unfolding afterD finished afterB inOrder firstFour atReq
   reset-idles =
       phase-stays s _ (silent-phase _ _ _ (resetting-ticks _ _ (resetting-rises s (atReq s e) (before-req Resetting resetting s e r))))
+
+-- WITH SELINGO 0 TOO, AND WHATEVER ENSELI, IT HAS NOTHING TO DO: what the code tests before it asks for the rest
+pub record Dormant (s : State) : Type 0 where
+  pub enselo : s .registers .scsiseq .enselo ≡ false
+  pub enrseli : s .registers .scsiseq .enrseli ≡ false
+  pub idle : s .sequencer .phase ≡ Idle
+  pub selingo : s .sequencer .status .selingo ≡ false
+
+module _ (s : State) (o : Dormant s) where
+  dormant-silenced : silenced (sequencedOf s) ≡ sequencedOf s
+  unfolding silenced sequencedOf isPhase phaseNumber selingoCleared
+  dormant-silenced = rw (o .idle, o .selingo)
+
+  dormant-sequences : (tick : Bool) (before : ℕ) → sequenced tick before s ≡ sequencedOf s
+  unfolding sequenced sequencedOf
+  dormant-sequences tick before =
+      ap (λ (y : Sequenced). cond (rstSeen s) (silenced (sequencedOf s)) y)
+      (idle-whole s (sequencedOf s) (o .idle) (o .enselo) (not-called s (o .enrseli)) tick before)
+      ∙ go (rstSeen s)
+    where
+      go : (t : Bool) → cond t (silenced (sequencedOf s)) (sequencedOf s) ≡ sequencedOf s
+      go true = dormant-silenced
+      go false = refl
+
+  pub dormant-still : (tick : Bool) (before : ℕ) → afterSequencer tick before s ≡ s
+  unfolding afterSequencer sequencedOf
+  dormant-still tick before =
+      ap (λ (x : Sequenced). withSequencer (x .sequencer) (withRegisters (registersWith (scsiseqWith (x .enselo) (s .registers .scsiseq)) (s .registers .sxfrctl0) (withAtn (x .atno) (s .registers .scsisig)) (s .registers)) (withQuiet (x .quiet) s)))
+      (dormant-sequences tick before)
+
+dormant-keeps : Keeps Dormant
+unfolding ackReleased busReset reqRisen busFreed selectionFreed phaseChanged
+dormant-keeps =
+    record {
+      released = λ n o. record { enselo = o .enselo; enrseli = o .enrseli; idle = o .idle; selingo = o .selingo };
+      reset = λ n o. record { enselo = refl; enrseli = refl; idle = o .idle; selingo = o .selingo };
+      risen = λ n o. record { enselo = o .enselo; enrseli = o .enrseli; idle = o .idle; selingo = o .selingo };
+      ticked = λ n ticks o. record { enselo = o .enselo; enrseli = o .enrseli; idle = o .idle; selingo = o .selingo };
+      freed = λ n o. record { enselo = o .enselo; enrseli = o .enrseli; idle = o .idle; selingo = o .selingo };
+      sequenced = λ n tick before o. subst Dormant (sym (dormant-still n o tick before)) o;
+      changed = λ n o. record { enselo = o .enselo; enrseli = o .enrseli; idle = o .idle; selingo = o .selingo };
+    }
+
+-- so B is the five steps of document 01
+pub dormant-four : (last : State) (ticks : ℕ) (now : State) (tick : Bool) (before : ℕ) → Dormant now → afterSequencer tick before (firstFour last ticks now) ≡ firstFour last ticks now
+dormant-four last ticks now tick before o =
+    dormant-still (firstFour last ticks now) (four-keep Dormant dormant-keeps last ticks now o) tick before

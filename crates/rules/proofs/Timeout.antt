@@ -37,33 +37,10 @@ regrouped k m = omega arith
 
 -- A TICK CHANGES NOTHING BY ITSELF
 
--- the latches stay where their enables do
-latch-same : (b t k : Bool) → latchEnabled b b t k ≡ k
-latch-same true true true = refl
-latch-same true true false = refl
-latch-same true false true = refl
-latch-same true false false = refl
-latch-same false t true = refl
-latch-same false t false = refl
-
 module _ (s : State) (m : ℕ) where
   sequencer-same : (afterA s (Ticks m)) .sequencer ≡ s .sequencer
   unfolding afterA sequencerA givesUp selectionA notedA selectionLatchesA registersA clears clearsLatch writes
-  sequencer-same =
-      let r = s .registers in
-      let t = s .sequencer .status in
-      let k = s .sequencer .latches in
-      λ i.
-      record {
-        phase = s .sequencer .phase;
-        ticks = s .sequencer .ticks;
-        noted = s .sequencer .noted;
-        selid = s .sequencer .selid;
-        status = t;
-        latches =
-            selectionWith (latch-same (r .simode0 .enseldo) (t .seldo) (k .seldo) i) (latch-same (r .simode0 .enseldi) (t .seldi) (k .seldi) i)
-            (latch-same (r .simode0 .enselingo) (t .selingo) (k .selingo) i) (latch-same (r .simode1 .enseltimo) (t .selto) (k .selto) i);
-      }
+  sequencer-same = refl
 
   registers-same : (afterA s (Ticks m)) .registers ≡ s .registers
   unfolding afterA registersA clears writes

@@ -23,7 +23,7 @@ fn record_answered(m: &mut Image, records: &[u8], answers: &mut [u8], i: usize)
     ensures { λ _. ⌜ IsRecordAnswered (now (m .entry)) (now (records .entry)) (now (answers .entry)) i (now (m .exit)) (now (answers .exit)) ⌝ }
 {
     let from = RECORD_SIZE * i;
-    let end = smaller(from + RECORD_SIZE, records.len());
+    let end = from + smaller(RECORD_SIZE, records.len() - from);
     let reply = stepped(m, &records[from..end]);
     let b = reply.answer;
     store_at(b, answers, ANSWER_SIZE * i);

@@ -41,7 +41,7 @@ returns c =
     let interrupt = judged .before in
     let s = interrupt .before in
     let m = s .args .m .now in
-    let drives = judged .driving .ensures in
+    let drives = judged .is-driving .ensures in
     let driven = data-by (stateAt m) drives (byte .byte-driven .ensures) in
     c .answer-bytes .ensures
     ∙ ap answerBytes
