@@ -144,11 +144,11 @@ impl Chip {
     /// the mode".
     #[inline]
     pub fn data_driven(&self) -> Option<u8> {
-        let ids = self.ids_driven();
-        if ids.is_some() {
-            return ids;
+        if !self.connected() {
+            // Where the sequencer gives data the chip is not connected.
+            return self.ids_driven();
         }
-        if !self.connected() || self.sees(IO) {
+        if self.sees(IO) {
             return None;
         }
         match self.mode() {

@@ -6,25 +6,27 @@
 use crate::chip::Chip;
 use crate::registers::*;
 
-/// Where the sequencer stands.
+/// Where the sequencer stands. A phase's number has the lines that the
+/// sequencer drives in their places of 343h.
 #[derive(Clone, Copy, Debug, Default, PartialEq, Eq)]
+#[repr(u8)]
 pub enum Phase {
     #[default]
-    Idle,
+    Idle = 0,
     /// For the bus to be free.
-    Waiting,
+    Waiting = 1,
     /// BSY and the own ID are on the bus.
-    Arbitrating,
+    Arbitrating = BSY,
     /// SEL is there too, until the others have left the bus.
-    Clearing,
+    Clearing = BSY | SEL,
     /// SEL and both IDs, until the target drives BSY.
-    Selecting,
+    Selecting = SEL,
     /// The same after a timeout, until the processor gives up.
-    Holding,
+    Holding = SEL | 1,
     /// A reselection that names the own ID.
-    Answering,
+    Answering = 2,
     /// BSY is driven until the target releases SEL.
-    Answered,
+    Answered = BSY | 1,
 }
 
 /// A phase and the ticks spent in it.
@@ -51,12 +53,7 @@ impl Phase {
     /// The control lines that the sequencer drives.
     #[inline]
     pub const fn lines(self) -> u8 {
-        match self {
-            Phase::Arbitrating | Phase::Answered => BSY,
-            Phase::Clearing => BSY | SEL,
-            Phase::Selecting | Phase::Holding => SEL,
-            Phase::Idle | Phase::Waiting | Phase::Answering => 0,
-        }
+        self as u8 & (BSY | SEL)
     }
 }
 
@@ -127,6 +124,14 @@ impl Chip {
     /// stood at 8 at the end of the last event.
     #[inline]
     pub fn sequence(&mut self, tick: bool, was_free: bool) {
+        // Most events find nothing to do.
+        let enabled = self.scsiseq & (ENSELO | ENRESELI) != 0;
+        if enabled || self.sequencer.phase != Phase::Idle || self.sees_reset() {
+            self.sequence_enabled(tick, was_free);
+        }
+    }
+
+    fn sequence_enabled(&mut self, tick: bool, was_free: bool) {
         // "RST seen: idle, SELINGO 0, and nothing below."
         if self.sees_reset() {
             self.status0 &= !SELINGO;
