@@ -203,7 +203,7 @@ impl Chip {
 
     /// "if others drive a data bit above OID, lost: waiting; else clearing."
     fn end_arbitration(&mut self) {
-        let lost = self.others.data > (self.own_id() | self.own_id() - 1);
+        let lost = self.others.data > (self.own_id() | (self.own_id() - 1));
         self.enter(if lost {
             Phase::Waiting
         } else {

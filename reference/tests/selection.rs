@@ -26,7 +26,7 @@ fn lines_and_data_of_each_phase() {
             assert_eq!(u32::from(answer.control), lines, "{phase:?}");
             assert_eq!(answer.data_driven, data.is_some(), "{phase:?}");
             assert_eq!(answer.data, data.unwrap_or(0), "{phase:?}");
-            let odd = data.is_some_and(|data: u8| data.count_ones() % 2 == 0);
+            let odd = data.is_some_and(|data: u8| data.count_ones().is_multiple_of(2));
             assert_eq!(answer.parity, odd, "{phase:?}");
         }
     }
