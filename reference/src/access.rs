@@ -28,8 +28,7 @@ impl Chip {
             SXFRCTL1 => self.sxfrctl1,
             // "The SCSISIG Read register reads the actual state of the signals".
             SCSISIG => self.control_seen(),
-            // "345h reads 0."
-            SCSIID => 0,
+            SCSIID => self.selid,
             SCSIDAT => self.read_data_latch(),
             SCSIBUS => self.data_seen(),
             STCNT0 => self.counter as u8,
@@ -66,7 +65,7 @@ impl Chip {
 
     fn register_write(&mut self, offset: u8, value: u8) -> Result<(), Refusal> {
         match offset {
-            SCSISEQ => self.scsiseq = value,
+            SCSISEQ => self.write_sequence_control(value),
             SXFRCTL0 => self.write_transfer_control(value),
             SXFRCTL1 => self.write_parity_control(value),
             // A set bit 4 sets ATN; a clear one leaves ATN as it is.
@@ -77,8 +76,7 @@ impl Chip {
             STCNT0 => self.write_counter_byte(0, value),
             STCNT1 => self.write_counter_byte(8, value),
             STCNT2 => self.write_counter_byte(16, value),
-            // "A write to 34Bh clears latches only".
-            SSTAT0 => self.latches0 &= !value,
+            SSTAT0 => self.clear_interrupts0(value),
             SSTAT1 => self.clear_interrupts1(value),
             // "34Fh clears errors."
             SSTAT4 => self.errors &= !value,
@@ -182,7 +180,28 @@ impl Chip {
         }
     }
 
-    // 34Ch, 350h, 351h: clears and enables.
+    // 34Bh, 34Ch, 350h, 351h: clears and enables.
+
+    /// "A write to 34Bh clears latches only".
+    ///
+    /// R-1: "A write of 34Bh bit 5 while SELDI is 1 and the quiet ticks stand
+    /// at 8 clears SELDI at once; else it notes."
+    fn clear_interrupts0(&mut self, value: u8) {
+        self.latches0 &= !value;
+        if value & self.status0 & SELDI != 0 {
+            if self.quiet_ticks == BUS_FREE {
+                self.clear_seldi();
+            } else {
+                self.seldi_noted = true;
+            }
+        }
+    }
+
+    /// "Noted is 0 whenever SELDI is 0."
+    pub fn clear_seldi(&mut self) {
+        self.status0 &= !SELDI;
+        self.seldi_noted = false;
+    }
 
     /// "A write to 34Ch clears the named status bits and latches; bit 6 clears
     /// ATN."

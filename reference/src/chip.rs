@@ -5,6 +5,7 @@ use crate::counter::{self, Direction};
 use crate::event::Lines;
 use crate::fifo::Fifo;
 use crate::registers::*;
+use crate::sequencer::{Phase, Sequencer};
 
 /// "Modes by SPIOEN, DMAEN: 0,0 Manual; 1,0 Automatic; 0,1 Normal; 1,1 none."
 #[derive(Clone, Copy, Debug, PartialEq, Eq)]
@@ -24,18 +25,24 @@ pub struct Chip {
     /// 343h as written: expected phase 7-5, ATN 4, SELO, BSYO, REQO, ACKO.
     pub scsisig: u8,
     pub scsirate: u8,
+    /// 345h as written: OID 6-4, TID 2-0.
     pub scsiid: u8,
+    /// 345h on read: the data that others drove at the last reselection.
+    pub selid: u8,
     /// The latch that a write to 346h fills.
     pub data_latch: u8,
     /// The transfer counter, 24 bits.
     pub counter: u32,
-    /// SPIORDY, in its place of 34Bh.
+    /// SELDO, SELDI, SELINGO, SPIORDY, in their places of 34Bh.
     pub status0: u8,
-    /// SCSIRSTI, BUSFREE, SCSIPERR, PHASECHG, REQINIT, in their places of 34Ch.
+    /// SELTO, SCSIRSTI, BUSFREE, SCSIPERR, PHASECHG, REQINIT, in their places of
+    /// 34Ch.
     pub status1: u8,
     /// Interrupt latches, in the places of their statuses.
     pub latches0: u8,
     pub latches1: u8,
+    /// 34Bh bit 5 was written while SELDI was 1: bus free clears it.
+    pub seldi_noted: bool,
     /// Request R-2: the parity of the last inbound byte was bad.
     pub kept_parity_bad: bool,
     /// SYNCERR and FWERR, in their places of 34Fh.
@@ -59,6 +66,7 @@ pub struct Chip {
     pub last_sent: u8,
     /// Ticks with neither BSY nor SEL seen, stopping at 8.
     pub quiet_ticks: u8,
+    pub sequencer: Sequencer,
     pub others: Lines,
 }
 
@@ -121,18 +129,26 @@ impl Chip {
         self.automatic_ack || (self.scsisig & ACK != 0 && self.mode() == Mode::Manual)
     }
 
-    /// "ATN, SEL, BSY (343h bits 4 to 2) and ACK; never CD, IO, MSG, REQ."
+    /// "ATN, SEL, BSY (343h bits 4 to 2) and ACK; never CD, IO, MSG, REQ", and
+    /// the lines of the sequencer.
     #[inline]
     pub fn control_driven(&self) -> u8 {
         let ack = if self.drives_ack() { ACK } else { 0 };
-        self.scsisig & (ATN | SEL | BSY) | ack
+        self.scsisig & (ATN | SEL | BSY) | ack | self.sequencer.phase.lines()
     }
 
     /// "Data is driven when connected and IO not seen: the latch in Manual and
     /// Automatic, the byte last sent in Normal while automatic ACK is on."
+    ///
+    /// R-1: "Where the sequencer gives data, that is what is driven, whatever
+    /// the mode".
     #[inline]
     pub fn data_driven(&self) -> Option<u8> {
-        if !self.connected() || self.sees(IO) {
+        if !self.connected() {
+            // Where the sequencer gives data the chip is not connected.
+            return self.ids_driven();
+        }
+        if self.sees(IO) {
             return None;
         }
         match self.mode() {
@@ -166,10 +182,13 @@ impl Chip {
 
     // Named conditions.
 
-    /// "Connected: BSY seen, SEL and RST not."
+    /// "Connected: BSY seen, SEL and RST not", and, R-1, "the phase is not
+    /// arbitrating: the chip's own arbitration is no connection."
     #[inline]
     pub fn connected(&self) -> bool {
-        self.control_seen() & (BSY | SEL) == BSY && !self.sees_reset()
+        self.control_seen() & (BSY | SEL) == BSY
+            && !self.sees_reset()
+            && self.sequencer.phase != Phase::Arbitrating
     }
 
     #[inline]

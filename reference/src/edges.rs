@@ -6,8 +6,9 @@ use crate::registers::*;
 
 impl Chip {
     #[inline]
-    pub fn edges(&mut self, before: Before, ticks: u32) -> Code {
+    pub fn edges(&mut self, before: Before, tick: bool) -> Code {
         let mut code = Code::Done;
+        let was_free = self.quiet_ticks == BUS_FREE;
         // "REQ falls: automatic ACK is released."
         if before.request && !self.sees(REQ) {
             self.automatic_ack = false;
@@ -19,7 +20,8 @@ impl Chip {
         if !before.request && self.sees(REQ) && !self.sees_reset() {
             code = self.request();
         }
-        self.watch_bus_free(ticks);
+        self.watch_bus_free(tick);
+        self.sequence(tick, was_free);
         // "PHASECHG is set when 'connected and not matched' is true here and
         // was false at the end of the last event."
         if !before.mismatched && self.mismatched() {
@@ -96,18 +98,26 @@ impl Chip {
     /// "Quiet ticks: 0 if BSY or SEL is seen, else ticks add, stopping at 8. On
     /// reaching 8: BUSFREE; 343h and offset 0; automatic ACK released."
     #[inline]
-    fn watch_bus_free(&mut self, ticks: u32) {
+    fn watch_bus_free(&mut self, tick: bool) {
         if self.sees(BSY | SEL) {
             self.quiet_ticks = 0;
-            return;
+        } else if tick && self.quiet_ticks < BUS_FREE {
+            self.quiet_ticks += 1;
+            if self.quiet_ticks == BUS_FREE {
+                self.bus_free();
+            }
         }
-        let was_free = self.quiet_ticks == 8;
-        self.quiet_ticks = (u32::from(self.quiet_ticks) + ticks).min(8) as u8;
-        if self.quiet_ticks == 8 && !was_free {
-            self.raise1(BUSFREE);
-            self.scsisig = 0;
-            self.offset = 0;
-            self.automatic_ack = false;
+    }
+
+    /// R-1: "bus free also clears SELDO, and SELDI where noted."
+    fn bus_free(&mut self) {
+        self.raise1(BUSFREE);
+        self.scsisig = 0;
+        self.offset = 0;
+        self.automatic_ack = false;
+        self.status0 &= !SELDO;
+        if self.seldi_noted {
+            self.clear_seldi();
         }
     }
 }

@@ -37,17 +37,6 @@ pub enum Event {
     Ticks(u32),
 }
 
-impl Event {
-    /// The ticks of 50 ns that pass in this event.
-    #[inline]
-    pub fn ticks(&self) -> u32 {
-        match self {
-            Event::Ticks(ticks) => *ticks,
-            _ => 0,
-        }
-    }
-}
-
 /// The event of a record, or nothing if the record is bad: "Unused bits, and
 /// the offset except in kinds 1 and 2, are 0. Kind 7 is bad."
 #[inline]

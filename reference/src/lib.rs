@@ -13,22 +13,28 @@ pub mod fifo;
 pub mod hex;
 pub mod random;
 pub mod registers;
+pub mod sequencer;
 pub mod settling;
 pub mod streams;
+pub mod ticks;
 
 pub use chip::Chip;
 
 use answer::{Code, Outcome};
-use event::decode;
+use event::{decode, Event};
 
 /// One event: the record's own effect (A), edges (B), settling (C) and the
-/// standing conditions (D), then the answer.
+/// standing conditions (D), then the answer. Ticks go through them one by one.
 #[inline]
 pub fn step(chip: &mut Chip, record: &[u8]) -> [u8; 16] {
     // "record not 4 bytes or not well formed": code 1, state same.
     let Some(event) = decode(record) else {
         return chip.answer(Code::BadRecord, 0, &Outcome::default());
     };
+    if let Event::Ticks(ticks @ 1..) = event {
+        let outcome = chip.pass_ticks(ticks);
+        return chip.answer(Code::Done, 0, &outcome);
+    }
     // Rises and falls speak against the end of the last event.
     let before = chip.remember();
     let value = match chip.own_effect(event) {
@@ -37,8 +43,9 @@ pub fn step(chip: &mut Chip, record: &[u8]) -> [u8; 16] {
         // fields show the unchanged state." It runs none of A to D.
         Err(refusal) => return chip.answer(refusal.code, refusal.value, &Outcome::default()),
     };
-    let code = chip.edges(before, event.ticks());
-    let outcome = chip.settle();
+    let code = chip.edges(before, false);
+    let mut outcome = Outcome::default();
+    chip.settle(&mut outcome);
     chip.standing_conditions();
     chip.answer(code, value, &outcome)
 }

@@ -30,6 +30,11 @@ pub const TEST: u8 = 0x1E; // 35Eh, write
 pub const ID: u8 = 0x1F; // 35Fh, read
 
 // 340h
+pub const TEMODEO: u8 = 0x80;
+pub const ENSELO: u8 = 0x40;
+pub const ENRESELI: u8 = 0x10;
+pub const ENAUTOATNO: u8 = 0x08;
+pub const ENAUTOATNI: u8 = 0x04;
 pub const ENAUTOATNP: u8 = 0x02;
 pub const SCSIRSTO: u8 = 0x01;
 
@@ -43,6 +48,8 @@ pub const CLRCH: u8 = 0x02;
 
 // 342h
 pub const ENSPCHK: u8 = 0x20;
+pub const STIMESEL: u8 = 0x18;
+pub const ENSTIMER: u8 = 0x04;
 
 // 343h: bit order of the control lines everywhere
 pub const CD: u8 = 0x80;
@@ -60,9 +67,13 @@ pub const PHASE: u8 = CD | IO | MSG;
 pub const SOFS: u8 = 0x0F;
 
 // 34Bh and 350h
+pub const SELDO: u8 = 0x40;
+pub const SELDI: u8 = 0x20;
+pub const SELINGO: u8 = 0x10;
 pub const SPIORDY: u8 = 0x02;
 
 // 34Ch and 351h
+pub const SELTO: u8 = 0x80;
 pub const SCSIRSTI: u8 = 0x20;
 pub const PHASEMIS: u8 = 0x10;
 pub const BUSFREE: u8 = 0x08;
@@ -100,6 +111,9 @@ pub const INSTAT: u8 = 0x20;
 pub const DFIFOFULL: u8 = 0x10;
 pub const DFIFOEMP: u8 = 0x08;
 pub const DFIFOHF: u8 = 0x04;
+
+/// The quiet ticks that make the bus free.
+pub const BUS_FREE: u8 = 8;
 
 // Bits that are kept; the reserved ones "are not stored and read 0", and
 // those that act once read 0.

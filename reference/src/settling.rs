@@ -8,17 +8,16 @@ use crate::registers::*;
 impl Chip {
     /// "Repeat the first that is possible, until neither is".
     #[inline]
-    pub fn settle(&mut self) -> Outcome {
-        let mut outcome = Outcome::default();
+    pub fn settle(&mut self, outcome: &mut Outcome) {
         // Both rules need the path, and settling does not change it.
         if !self.path() {
-            return outcome;
+            return;
         }
         loop {
             if self.move_byte() {
                 outcome.moves += 1;
-            } else if !self.handshake(&mut outcome) {
-                return outcome;
+            } else if !self.handshake(outcome) {
+                return;
             }
         }
     }

@@ -90,7 +90,16 @@ fn streams_are_repeatable() {
         .output()
         .unwrap();
     assert_eq!(output.stdout, stream(7, 500));
-    for benchmark in ["write", "read", "probe"] {
+    for benchmark in [
+        "write",
+        "read",
+        "probe",
+        "lines",
+        "full-write",
+        "full-read",
+        "selection",
+        "ticks",
+    ] {
         let output = Command::new(env!("CARGO_BIN_EXE_streams"))
             .args([benchmark, "1000"])
             .output()

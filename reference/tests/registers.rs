@@ -140,9 +140,10 @@ fn scsirate_344() {
     assert_eq!((answer.acks, answer.control, answer.offset), (1, 0x00, 0));
 }
 
-/// "345h reads 0."
+/// 345h reads the IDs of the last reselection, "0 after power reset", and
+/// not what was written.
 #[test]
-fn scsiid_345_reads_0() {
+fn scsiid_345_does_not_read_back() {
     let mut bench = Bench::new();
     bench.write(0x345, 0x75);
     assert_eq!(bench.read(0x345), 0);
@@ -178,9 +179,9 @@ fn counter_348_to_34a() {
     assert_eq!(bench.counter(), 0x33_0011);
 }
 
-/// 34Bh: SETSDONE does nothing, unruled statuses read 0.
+/// 34Bh: SETSDONE does nothing, and no clear sets a status.
 #[test]
-fn sstat0_34b_has_only_spiordy() {
+fn sstat0_34b_is_not_written() {
     let mut bench = Bench::new();
     bench.write(0x34B, 0xFF);
     assert_eq!(bench.read(0x34B), 0x00);

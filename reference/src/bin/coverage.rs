@@ -4,6 +4,7 @@
 use reference::chip::Mode;
 use reference::event::{decode, Event};
 use reference::registers::*;
+use reference::sequencer::Phase;
 use reference::streams::{stream, USUAL_LENGTH};
 use reference::{step, Chip};
 use std::collections::BTreeMap;
@@ -121,7 +122,8 @@ fn count_number(counts: &mut Counts, name: &'static str, last: u32, number: u8) 
 }
 
 /// Each status of 34Ch with the names of its rise, its fall and its latch.
-const STATUSES: [(u8, &str, &str, &str); 5] = [
+const STATUSES: [(u8, &str, &str, &str); 6] = [
+    (SELTO, "SELTO rises", "SELTO falls", "SELTO latch sets"),
     (
         SCSIRSTI,
         "SCSIRSTI rises",
@@ -151,6 +153,24 @@ const STATUSES: [(u8, &str, &str, &str); 5] = [
         "REQINIT rises",
         "REQINIT falls",
         "REQINIT latch sets",
+    ),
+];
+
+/// The same for 34Bh.
+const STATUSES0: [(u8, &str, &str, &str); 4] = [
+    (SELDO, "SELDO rises", "SELDO falls", "SELDO latch sets"),
+    (SELDI, "SELDI rises", "SELDI falls", "SELDI latch sets"),
+    (
+        SELINGO,
+        "SELINGO rises",
+        "SELINGO falls",
+        "SELINGO latch sets",
+    ),
+    (
+        SPIORDY,
+        "SPIORDY rises",
+        "SPIORDY falls",
+        "SPIORDY latch sets",
     ),
 ];
 
@@ -193,34 +213,48 @@ fn count_statuses(counts: &mut Counts, before: &Chip, after: &Chip) {
         counts.note(fall, rises(after.status1, before.status1, bit));
         counts.note(latch, rises(before.latches1, after.latches1, bit));
     }
-    // A clear of 34Ch takes both, so an enabled status there keeps its latch.
-    assert_eq!(after.status1 & after.simode1 & !after.latches1, 0);
+    for (bit, rise, fall, latch) in STATUSES0 {
+        counts.note(rise, rises(before.status0, after.status0, bit));
+        counts.note(fall, rises(after.status0, before.status0, bit));
+        counts.note(latch, rises(before.latches0, after.latches0, bit));
+    }
+    // A clear of 34Ch takes both, so an enabled status there keeps its latch;
+    // but a clear may leave SCSIPERR alone.
+    let unlatched = after.status1 & after.simode1 & !after.latches1;
+    assert_eq!(unlatched & !SCSIPERR, 0);
+    counts.note("SCSIPERR enabled without latch", unlatched & SCSIPERR != 0);
     let alone = after.latches1 & !after.status1;
     counts.note("SCSIPERR latch without status", alone & SCSIPERR != 0);
     counts.note("REQINIT latch without status", alone & REQINIT != 0);
     let masked = after.latches1 & !after.simode1;
     counts.note("latch with its enable masked", masked != 0);
-    counts.note(
-        "SPIORDY rises",
-        rises(before.status0, after.status0, SPIORDY),
-    );
-    counts.note(
-        "SPIORDY falls",
-        rises(after.status0, before.status0, SPIORDY),
-    );
-    counts.note(
-        "SPIORDY latch sets",
-        rises(before.latches0, after.latches0, SPIORDY),
-    );
-    let enabled = after.status0 & after.simode0 & SPIORDY != 0;
-    counts.note(
-        "SPIORDY enabled without latch",
-        enabled && after.latches0 == 0,
-    );
-    counts.note(
-        "SPIORDY latch without status",
-        after.latches0 & !after.status0 != 0,
-    );
+    let unlatched = after.status0 & after.simode0 & !after.latches0;
+    let alone = after.latches0 & !after.status0;
+    for (bit, enabled, latch) in [
+        (
+            SELDO,
+            "SELDO enabled without latch",
+            "SELDO latch without status",
+        ),
+        (
+            SELDI,
+            "SELDI enabled without latch",
+            "SELDI latch without status",
+        ),
+        (
+            SELINGO,
+            "SELINGO enabled without latch",
+            "SELINGO latch without status",
+        ),
+        (
+            SPIORDY,
+            "SPIORDY enabled without latch",
+            "SPIORDY latch without status",
+        ),
+    ] {
+        counts.note(enabled, unlatched & bit != 0);
+        counts.note(latch, alone & bit != 0);
+    }
     counts.note("PHASEMIS", after.phase_mismatch());
     counts.note(
         "PHASEMIS enabled",
@@ -247,6 +281,9 @@ fn count_event(counts: &mut Counts, before: &Chip, after: &Chip, record: &[u8], 
         return;
     };
     let code = answer[0] >> 5;
+    if code == 0 {
+        count_sequencer(counts, before, after, event, answer);
+    }
     let reset_rises = !before.sees_reset() && after.sees_reset();
     let holding = before.scsi_fifo.count() + before.host_fifo.count() > 0;
     counts.note("RST rises with bytes held", reset_rises && holding);
@@ -288,6 +325,182 @@ fn count_event(counts: &mut Counts, before: &Chip, after: &Chip, record: &[u8], 
             counts.note("many ticks", ticks > 0xFFFF);
         }
     }
+}
+
+/// Each phase with the name of a bus reset in it.
+const RESETS: [(Phase, &str); 8] = [
+    (Phase::Idle, "RST rises while idle"),
+    (Phase::Waiting, "RST rises while waiting"),
+    (Phase::Arbitrating, "RST rises while arbitrating"),
+    (Phase::Clearing, "RST rises while clearing"),
+    (Phase::Selecting, "RST rises while selecting"),
+    (Phase::Holding, "RST rises while holding"),
+    (Phase::Answering, "RST rises while answering"),
+    (Phase::Answered, "RST rises while answered"),
+];
+
+/// Changes of phase from the end of one event to the end of the next.
+const CHANGES: [(Phase, Phase, &str); 26] = [
+    (Phase::Idle, Phase::Waiting, "idle to waiting"),
+    (Phase::Idle, Phase::Answering, "idle to answering"),
+    (Phase::Waiting, Phase::Idle, "waiting to idle"),
+    (Phase::Waiting, Phase::Arbitrating, "waiting to arbitrating"),
+    (Phase::Waiting, Phase::Clearing, "waiting to clearing"),
+    (Phase::Waiting, Phase::Selecting, "waiting to selecting"),
+    (Phase::Waiting, Phase::Holding, "waiting to holding"),
+    (Phase::Waiting, Phase::Answering, "waiting to answering"),
+    (Phase::Arbitrating, Phase::Idle, "arbitrating to idle"),
+    (Phase::Arbitrating, Phase::Waiting, "arbitrating to waiting"),
+    (
+        Phase::Arbitrating,
+        Phase::Clearing,
+        "arbitrating to clearing",
+    ),
+    (
+        Phase::Arbitrating,
+        Phase::Selecting,
+        "arbitrating to selecting",
+    ),
+    (Phase::Arbitrating, Phase::Holding, "arbitrating to holding"),
+    (
+        Phase::Arbitrating,
+        Phase::Answering,
+        "arbitrating to answering",
+    ),
+    (Phase::Clearing, Phase::Idle, "clearing to idle"),
+    (Phase::Clearing, Phase::Selecting, "clearing to selecting"),
+    (Phase::Clearing, Phase::Holding, "clearing to holding"),
+    (Phase::Selecting, Phase::Idle, "selecting to idle"),
+    (Phase::Selecting, Phase::Holding, "selecting to holding"),
+    (Phase::Selecting, Phase::Answering, "selecting to answering"),
+    (Phase::Holding, Phase::Idle, "holding to idle"),
+    (Phase::Answering, Phase::Idle, "answering to idle"),
+    (Phase::Answering, Phase::Waiting, "answering to waiting"),
+    (Phase::Answering, Phase::Answered, "answering to answered"),
+    (Phase::Answered, Phase::Idle, "answered to idle"),
+    (Phase::Answered, Phase::Waiting, "answered to waiting"),
+];
+
+fn count_sequencer(
+    counts: &mut Counts,
+    before: &Chip,
+    after: &Chip,
+    event: Event,
+    answer: &[u8; 16],
+) {
+    let (from, to) = (before.sequencer.phase, after.sequencer.phase);
+    for (first, second, name) in CHANGES {
+        counts.note(name, first == from && second == to);
+    }
+    let reset_rises = !before.sees_reset() && after.sees_reset();
+    for (phase, name) in RESETS {
+        counts.note(name, reset_rises && from == phase);
+    }
+    let ticks = match event {
+        Event::Ticks(ticks) => ticks,
+        _ => 0,
+    };
+    count_selection(counts, before, after, ticks, answer);
+    count_reselection(counts, before, after, ticks);
+    if let Event::RegisterWrite {
+        offset: SCSISEQ, ..
+    } = event
+    {
+        let gives_up = to == Phase::Idle && !after.sees_reset();
+        counts.note(
+            "gives up while selecting",
+            gives_up && from == Phase::Selecting,
+        );
+        counts.note("gives up while holding", gives_up && from == Phase::Holding);
+        let off = after.scsiseq & ENSELO == 0;
+        counts.note(
+            "ENSELO off under way",
+            off && to == from
+                && matches!(
+                    to,
+                    Phase::Waiting | Phase::Arbitrating | Phase::Clearing | Phase::Selecting
+                ),
+        );
+    }
+}
+
+fn count_selection(
+    counts: &mut Counts,
+    before: &Chip,
+    after: &Chip,
+    ticks: u32,
+    answer: &[u8; 16],
+) {
+    let (from, to) = (before.sequencer.phase, after.sequencer.phase);
+    let times_out = rises(before.status1, after.status1, SELTO);
+    for code in 0..4 {
+        let chosen = u32::from((after.sxfrctl1 & STIMESEL) >> 3) == code;
+        counts.note_number("SELTO by STIMESEL", code, times_out && chosen);
+    }
+    counts.note("SELTO and idle", times_out && to == Phase::Idle);
+    counts.note("SELTO and holding", times_out && to == Phase::Holding);
+    counts.note(
+        "SELTO within an event from waiting",
+        times_out && from == Phase::Waiting,
+    );
+    counts.note(
+        "SELTO by a limit that was lowered",
+        times_out && ticks == 1 && before.sequencer.ticks > 640_000,
+    );
+    counts.note(
+        "SELINGO without a selection",
+        after.status0 & SELINGO != 0 && to == Phase::Idle,
+    );
+    let done = rises(before.status0, after.status0, SELDO);
+    counts.note("SELDO and an ACK in one event", done && answer[0] & 15 > 0);
+    counts.note("SELDO while holding", done && from == Phase::Holding);
+    counts.note("SELDO in a tick", done && ticks > 0);
+    counts.note("moves in a long event", ticks > 8 && answer[1] >> 3 > 0);
+    let lost = ticks > 0 && from == Phase::Arbitrating && to == Phase::Waiting;
+    counts.note("arbitration lost in a tick", lost);
+    counts.note(
+        "arbitration won against others",
+        ticks > 0 && to == Phase::Clearing && from == Phase::Arbitrating && after.others.data != 0,
+    );
+    counts.note(
+        "rounds lost in one event",
+        ticks > 216
+            && from == Phase::Waiting
+            && before.others.data.leading_zeros() < after.ids_driven().unwrap_or(0).leading_zeros()
+            && to == Phase::Arbitrating,
+    );
+    let attention = rises(before.scsisig, after.scsisig, ATN) && ticks > 0;
+    counts.note(
+        "ATN by ENAUTOATNO",
+        attention && after.status0 & SELINGO != 0,
+    );
+    counts.note("ATN by ENAUTOATNI", attention && to == Phase::Answered);
+}
+
+fn count_reselection(counts: &mut Counts, before: &Chip, after: &Chip, ticks: u32) {
+    let falls = rises(after.status0, before.status0, SELDI);
+    counts.note("SELDI noted", after.seldi_noted && !before.seldi_noted);
+    counts.note("SELDI cleared by bus free", falls && ticks > 0);
+    counts.note("SELDI cleared at once", falls && before.quiet_ticks == 8);
+    let answers = ticks > 0
+        && before.sequencer.phase == Phase::Answering
+        && after.sequencer.phase == Phase::Answered;
+    counts.note(
+        "SELDI stands at a reselection",
+        answers && before.status0 & SELDI != 0,
+    );
+    counts.note(
+        "note forgotten at a reselection",
+        answers && before.seldi_noted,
+    );
+    counts.note(
+        "345h changes",
+        answers && before.selid != 0 && before.selid != after.selid,
+    );
+    counts.note(
+        "reselected while asked to select",
+        answers && after.scsiseq & (TEMODEO | ENSELO) == ENSELO,
+    );
 }
 
 fn count_lines(counts: &mut Counts, before: &Chip, after: &Chip, code: u8) {

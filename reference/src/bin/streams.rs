@@ -1,13 +1,14 @@
 //! Writes raw event records to standard output:
 //! `streams SEED [LENGTH]` a mixed stream by seed,
-//! `streams write|read|probe|lines|full-write|full-read N` a benchmark stream of N events.
+//! `streams write|read|probe|lines|full-write|full-read|selection|ticks N` a benchmark stream of
+//! N events.
 
 use reference::streams::{benchmark_record, stream, Benchmark, USUAL_LENGTH};
 use std::io::{self, BufWriter, ErrorKind, Write};
 use std::process::ExitCode;
 
-const USAGE: &str =
-    "usage: streams SEED [LENGTH] | streams write|read|probe|lines|full-write|full-read N";
+const USAGE: &str = "usage: streams SEED [LENGTH]
+       streams write|read|probe|lines|full-write|full-read|selection|ticks N";
 
 enum Request {
     Mixed { seed: u64, length: usize },
@@ -37,6 +38,8 @@ fn parse(arguments: &[String]) -> Option<Request> {
         "lines" => Benchmark::Lines,
         "full-write" => Benchmark::FullWrite,
         "full-read" => Benchmark::FullRead,
+        "selection" => Benchmark::Selection,
+        "ticks" => Benchmark::Ticks,
         _ => return parse_mixed(arguments),
     };
     match arguments {

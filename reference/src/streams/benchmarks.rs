@@ -18,6 +18,10 @@ pub enum Benchmark {
     FullWrite,
     /// The read run with the host FIFO near 128 bytes.
     FullRead,
+    /// Start-ups: a selection with attention that is won, and one that times out.
+    Selection,
+    /// Ticks of every length, nearly nothing else, on a bus idle or waited for.
+    Ticks,
 }
 
 /// Where the full write run starts to send: both FIFOs are full then, 128 bytes and 8.
@@ -34,6 +38,8 @@ pub fn benchmark_record(benchmark: Benchmark, place: u64) -> u32 {
         Benchmark::Lines => line_record(place),
         Benchmark::FullWrite => full_write_record(place),
         Benchmark::FullRead => full_read_record(place),
+        Benchmark::Selection => selection_record(place),
+        Benchmark::Ticks => ticks_record(place),
     }
 }
 
@@ -128,5 +134,57 @@ fn full_read_record(place: u64) -> u32 {
         0 => records::WORD_READ,
         1 | 3 => byte_offered(place),
         _ => records::lines(u32::from(IO | BSY)),
+    }
+}
+
+/// After six records a round of 20: nobody answers, then the target does and leaves the bus again.
+fn selection_record(place: u64) -> u32 {
+    match place {
+        0 => return records::POWER_RESET,
+        1 => return records::write(SCSIID, 0x72),
+        2 => return records::write(SXFRCTL1, ENSTIMER),
+        3 => return records::write(SIMODE0, SELDO),
+        4 => return records::write(SIMODE1, SELTO),
+        5 => return records::write(DMACNTRL0, INTEN),
+        _ => {}
+    }
+    let round = (place - 6) / 20;
+    match (place - 6) % 20 {
+        0 | 8 => records::ticks(8),
+        1 | 9 => records::write(SCSISIG, CD | MSG),
+        2 | 10 => records::write(SCSISEQ, ENSELO | ENAUTOATNO),
+        3 if mix(round) & 1 == 0 => records::ticks(0xFF_FFFF),
+        3 => records::ticks(5_120_100),
+        4 | 13 => records::read(SSTAT0),
+        5 => records::read(SSTAT1),
+        6 | 18 => records::write(SSTAT1, 0xFF),
+        7 => records::write(SCSISEQ, 0),
+        11 => records::ticks(88),
+        12 => records::lines(u32::from(BSY)),
+        14 => records::write(SSTAT0, SELDO),
+        15 => records::lines(u32::from(CD | MSG | BSY | REQ)),
+        16 => records::read(SCSISIG),
+        17 => records::lines(0),
+        _ => records::ticks(100),
+    }
+}
+
+/// In every 256 records four that change what the ticks find: a bus free or held by a target, asked or not, a higher ID or none.
+fn ticks_record(place: u64) -> u32 {
+    if place == 0 {
+        return records::POWER_RESET;
+    }
+    let bits = mix(place);
+    let choice = mix(place / 256);
+    match place % 256 {
+        1 => records::write(SCSISEQ, 0),
+        2 if choice & 3 == 0 => records::lines(u32::from(BSY)),
+        2 if choice & 3 == 1 => records::lines(data_lines(0x80, true)),
+        2 => records::lines(0),
+        3 if choice & 4 == 0 => records::write(SCSISEQ, ENSELO),
+        3 => records::read(SSTAT1),
+        4 => records::write(SSTAT1, BUSFREE),
+        // Lengths of all magnitudes, up to the longest.
+        _ => records::ticks((bits >> 40) as u32 >> (bits % 24)),
     }
 }

@@ -3,6 +3,7 @@
 
 use super::{data_lines, Maker, RST_LINE};
 use crate::registers::*;
+use crate::sequencer::Phase;
 
 /// A latched status: the offset of its enable and its bit.
 #[derive(Clone, Copy)]
@@ -11,7 +12,7 @@ struct Source {
     bit: u8,
 }
 
-const SOURCES: [Source; 7] = [
+const SOURCES: [Source; 11] = [
     Source {
         enable: SIMODE0,
         bit: SPIORDY,
@@ -19,6 +20,22 @@ const SOURCES: [Source; 7] = [
     Source {
         enable: SIMODE0,
         bit: SPIORDY,
+    },
+    Source {
+        enable: SIMODE0,
+        bit: SELDO,
+    },
+    Source {
+        enable: SIMODE0,
+        bit: SELDI,
+    },
+    Source {
+        enable: SIMODE0,
+        bit: SELINGO,
+    },
+    Source {
+        enable: SIMODE1,
+        bit: SELTO,
     },
     Source {
         enable: SIMODE1,
@@ -61,10 +78,10 @@ impl Maker {
         match self.random.below(9) {
             0 | 1 => self.write(source.enable, source.bit),
             2 => {
-                let others = self.random.byte() & !source.bit & !PHASEMIS;
                 // Enables of statuses that no rule raises.
-                let unruled = others & 0xC0;
-                self.write(source.enable, unruled);
+                let unruled = if source.enable == SIMODE0 { 0x8D } else { 0x40 };
+                let others = self.random.byte() & unruled;
+                self.write(source.enable, others);
             }
             3..=5 => self.raise_source(source),
             6 => self.lower_source(source),
@@ -87,7 +104,22 @@ impl Maker {
 
     fn raise_source(&mut self, source: Source) {
         match (source.enable, source.bit) {
-            (SIMODE0, _) => self.raise_pio_ready(),
+            (SIMODE0, SPIORDY) => self.raise_pio_ready(),
+            (SIMODE0, SELDO) => {
+                self.release();
+                self.bring_to(Phase::Selecting);
+                self.drive_control(BSY);
+            }
+            (SIMODE0, SELDI) => {
+                self.release();
+                self.bring_to(Phase::Answered);
+            }
+            (SIMODE0, _) => {
+                self.release();
+                self.bring_to(Phase::Clearing);
+                self.ticks(24);
+            }
+            (_, SELTO) => self.raise_timeout(),
             (_, SCSIRSTI) => {
                 self.drive(RST_LINE);
                 self.drive(0);
@@ -116,6 +148,22 @@ impl Maker {
         }
     }
 
+    /// A bus on which nobody drives anything, 343h included.
+    fn release(&mut self) {
+        self.write(SCSISEQ, 0);
+        self.write(SCSISIG, 0);
+        self.drive(0);
+    }
+
+    fn raise_timeout(&mut self) {
+        let code = self.random.byte() & STIMESEL;
+        self.release();
+        self.write(SXFRCTL1, ENSTIMER | code);
+        self.bring_to(Phase::Selecting);
+        let count = self.random.pick(&[639_999, 640_000, 5_120_000, 0xFF_FFFF]);
+        self.ticks(count);
+    }
+
     fn raise_pio_ready(&mut self) {
         self.write(SXFRCTL0, SPIOEN | CHEN);
         self.write(SCSISIG, 0);
@@ -126,9 +174,21 @@ impl Maker {
     /// The status falls by other means than its clear.
     fn lower_source(&mut self, source: Source) {
         match (source.enable, source.bit) {
-            (SIMODE0, _) => {
+            (SIMODE0, SPIORDY) => {
                 let value = self.random.byte();
                 self.write(SCSIDAT, value);
+            }
+            (SIMODE0, SELINGO) => self.drive_control(BSY),
+            (SIMODE0, _) => {
+                // SELDI needs its note first, and that clears the latch too.
+                let noted = if self.random.percent(70) {
+                    source.bit
+                } else {
+                    0
+                };
+                self.write(SSTAT0, noted & SELDI);
+                self.drive(0);
+                self.ticks(8);
             }
             (_, SCSIPERR) => self.write(SXFRCTL1, 0),
             (_, REQINIT) => self.drive_control(BSY | ACK),

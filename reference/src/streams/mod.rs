@@ -7,6 +7,7 @@ mod latches;
 mod pio;
 mod probing;
 mod runs;
+mod selections;
 
 pub use benchmarks::{benchmark_record, Benchmark};
 
@@ -93,7 +94,11 @@ const SCENARIOS: &[Scenario] = &[
     (6, Maker::bus_free),
     (6, Maker::phase_changes),
     (5, Maker::parity_checks),
-    (4, Maker::selection),
+    (4, Maker::selection_by_hand),
+    (30, Maker::selection),
+    (10, Maker::start_up),
+    (12, Maker::reselection),
+    (6, Maker::long_ticks),
     (6, Maker::interrupt_play),
     (12, Maker::single_interrupt),
     (3, Maker::stack_and_id),

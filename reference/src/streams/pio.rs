@@ -1,5 +1,5 @@
 //! Automatic and Manual PIO, and what happens on the bus around transfers:
-//! resets, bus free, phases, parity, selection.
+//! resets, bus free, phases, parity, selection by hand.
 
 use super::{data_lines, Maker, RST_LINE};
 use crate::registers::*;
@@ -318,7 +318,7 @@ impl Maker {
     }
 
     /// SEL and BSY by others and by 343h, with IDs on the data lines.
-    pub(super) fn selection(&mut self) {
+    pub(super) fn selection_by_hand(&mut self) {
         let value = self.random.byte();
         self.write(SCSIID, value);
         let value = self.random.byte() & !SCSIRSTO;

@@ -2,6 +2,8 @@
 
 #![allow(dead_code)]
 
+pub mod sequencer;
+
 use reference::{step, Chip};
 
 #[derive(Clone, Copy, Debug, PartialEq, Eq)]
