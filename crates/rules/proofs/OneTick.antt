@@ -34,7 +34,8 @@ use Rattle.rules.proofs.Sequencing.{timeout-least}
 use Rattle.rules.proofs.Resolving.{Calm, Sequential, Quieted, calm-still, silenced-still, rest-quieted, rest-calm, sequential-by, sequencedInto, sequenced-into, drives-line}
 use Rattle.rules.proofs.Refusals.{not-beyond}
 use Rattle.rules.proofs.Rest.{settle-rests}
-use Rattle.rules.proofs.Still.{AtRest, after-a-still, falls-still, reset-still, rises-still, finished-still, ticks-done}
+use Rattle.rules.proofs.Still.{after-a-still, falls-still, reset-still, rises-still, finished-still, ticks-done}
+use Rattle.rules.specs.Rest.{AtRest}
 
 -- one tick of B by itself
 unfoldable pub ticked : State → State

@@ -33,10 +33,12 @@ use Rattle.rules.specs.declared.records.Event.the-variants.{PowerReset, 
 use Rattle.rules.proofs.Logic.{never, left-true, right-true, cond-case}
 use Rattle.rules.proofs.Resolving.{held-after}
 use Rattle.rules.proofs.Refusals.{eight-codes}
-use Rattle.rules.proofs.Rest.{Resting, Counts, settle-rests, settling-counts, acksLeft}
+use Rattle.rules.proofs.Rest.{Counts, settle-rests, settling-counts, acksLeft}
+use Rattle.rules.specs.Rest.{Resting}
 use Rattle.rules.proofs.Settling.{settle-keeps}
 use Rattle.rules.proofs.Ranges.{StepFits, StepBytes, one-fits, byte-fits, bytes-append, bytes-zeros, data-driven-fits, decode-fits, ended-fits, access-fits, after-b-fits, single-in-range, step-bytes, power-reset-fits, always-in-range, always-in-bytes}
-use Rattle.rules.proofs.Still.{AtRest, done-rests, ticks-done, access-rests, always-at-rest}
+use Rattle.rules.proofs.Still.{done-rests, ticks-done, access-rests, always-at-rest}
+use Rattle.rules.specs.Rest.{AtRest}
 use Rattle.rules.proofs.OneTick.{ticked, b-ticks, c-ticks, tick-plain, ticked-steady, advanced-rests, advanced-connected, answering-called}
 
 -- BARRED: neither others nor 343h drive BSY, and 343h expects no IO. Then no tick can make a connection, nor a path.

@@ -8,17 +8,13 @@ use native.Mathlib.Nat.{zero-add}
 use lib.Dec.{ltb}
 use lib.ListN.{length, length-append, length-take, length-drop}
 use borrow.Author.Tests.{ltb-true, not-true}
+use Rattle.rules.specs.Rest.{Resting}
 use Rattle.rules.specs.Numbers.{one}
 use Rattle.rules.specs.State.{State, Transfer}
 use Rattle.rules.specs.StepC.{Settling, canMove, move, canAsynchronous, canSynchronous, canHandshake, handshake, turn, settle, turns, started}
 use Rattle.rules.specs.declared.chip.Conditions.{Conditions}
 use Rattle.rules.proofs.Logic.{never, left-true, right-true}
 use Rattle.rules.proofs.Settling.{settle-keeps}
-
--- neither a move nor a handshake is possible
-pub record Resting (c : Conditions) (t : Transfer) : Type 0 where
-  pub noMove : canMove c t ≡ false
-  pub noHandshake : canHandshake c t ≡ false
 
 -- a move or a handshake is possible
 abbrev pub busy : Conditions → Transfer → Bool

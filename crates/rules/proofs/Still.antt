@@ -7,6 +7,7 @@ use native.Mathlib.Omega.{arith}
 use lib.Dec.{ltb, leb}
 use lib.ListN.{length}
 use borrow.Author.Tests.{le-ltb}
+use Rattle.rules.specs.Rest.{AtRest}
 use Rattle.rules.specs.State.{State, powerReset}
 use Rattle.rules.specs.Changed.{withTransfer}
 use Rattle.rules.specs.Seen.{phaseBsy, phaseSel, ackDriven, ackSeen, bsySeen, connected, ioSeen, matched, mismatched, parityEven, reqSeen, rstSeen, selSeen, synchronous}
@@ -39,22 +40,8 @@ use Rattle.rules.proofs.InOrder.{Keeps, b-keeps, ticks-leave}
 use Rattle.rules.proofs.Resolving.{Sequential, busyAt, Hushed, tickless, sequenced-into, sequencedInto, same-into, sequencer-calm, sequential-status, sequential-latches, sequential-transfer, hushed-sequenced}
 use Rattle.rules.proofs.Refusals.{not-beyond}
 use Rattle.rules.proofs.Ranges.{decode-fits, after-b-fits, power-reset-fits, access-fits, step-in-range, always-in-range}
-use Rattle.rules.proofs.Rest.{Resting, settle-rests, settling-rests}
-
--- what holds at the end of every event, and lets 0 ticks change nothing
-pub record AtRest (s : State) : Type 0 where
-  -- neither a move nor a handshake is possible
-  pub resting : Resting (conditions s) (s .transfer)
-  -- FWERR and SPIORDY are set where their causes hold
-  pub fwerr : fifoConflict (s .registers) ≡ true → s .status .fwerr ≡ true
-  pub spiordy : pioReady s ≡ true → s .status .spiordy ≡ true
-  -- REQINIT is clear where ACK is seen, SCSIPERR where ENSPCHK is 0
-  pub reqinit : ackSeen s ≡ true → s .status .reqinit ≡ false
-  pub scsiperr : s .registers .sxfrctl1 .enspchk ≡ false → s .status .scsiperr ≡ false
-  -- no quiet ticks stand where BSY or SEL is seen
-  pub quiet : (bsySeen s || selSeen s) ≡ true → s .quiet ≡ 0
-  -- the sequencer has nothing to do without a tick
-  pub sequencer : sequenced false 0 s ≡ sequencedOf s
+use Rattle.rules.proofs.Rest.{settle-rests, settling-rests}
+use Rattle.rules.specs.Rest.{Resting}
 
 -- a status that its cause sets, or that another holds clear, stays as it is
 set-already : (cause status : Bool) → (cause ≡ true → status ≡ true) → (cause || status) ≡ status

@@ -25,7 +25,8 @@ use Rattle.rules.specs.declared.chip.Phase.the-variants.{Idle, Waiting, 
 use Rattle.rules.specs.declared.records.Event.the-variants.{Ticks}
 use Rattle.rules.proofs.Logic.{never}
 use Rattle.rules.proofs.Sequencing.{timeout-least}
-use Rattle.rules.proofs.Still.{AtRest, quiet-still, zero-ticks-at-rest, always-at-rest}
+use Rattle.rules.proofs.Still.{quiet-still, zero-ticks-at-rest, always-at-rest}
+use Rattle.rules.specs.Rest.{AtRest}
 use Rattle.rules.proofs.Ranges.{always-in-range}
 use Rattle.rules.proofs.OneTick.{no-free, advanced-rests, advanced-fits, steady-tick}
 

@@ -17,6 +17,7 @@ pub mod StepA
 pub mod StepB
 pub mod StepC
 pub mod StepD
+pub mod Rest
 pub mod Answers
 pub mod Step
 pub mod Ticks

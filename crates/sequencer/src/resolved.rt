@@ -131,7 +131,11 @@ fn idled(q: Sequencer) -> Sequencer
     ensures { λ r. ⌜ r ≡ cond (isPhase Idle (q .phase)) q (inPhase Idle q) ⌝ }
 {
     let p = q.phase;
-    if is_phase(Phase::Idle, p) { q } else { in_phase(Phase::Idle, q) }
+    if is_phase(Phase::Idle, p) {
+        q
+    } else {
+        in_phase(Phase::Idle, q)
+    }
 }
 
 // "RST seen: idle, SELINGO 0, and nothing below."

@@ -50,7 +50,11 @@ fn waiting_for(n: u32, x: Sequenced) -> Sequenced
 fn arbitrated(higher: bool) -> Phase
     ensures { λ p. ⌜ p ≡ cond higher Waiting Clearing ⌝ }
 {
-    if higher { Phase::Waiting } else { Phase::Clearing }
+    if higher {
+        Phase::Waiting
+    } else {
+        Phase::Clearing
+    }
 }
 
 fn arbitrating_for(m: &Image, n: u32, x: Sequenced) -> Sequenced
@@ -107,7 +111,11 @@ fn times_out(m: &Image, x: Sequenced) -> Sequenced
 fn selecting_for(m: &Image, n: u32, x: Sequenced) -> Sequenced
     ensures { λ r. ⌜ r ≡ selectingFor (stateAt (now (m .entry))) n x ⌝ }
 {
-    if timeout(m) <= n { times_out(m, x) } else { waited(n, x) }
+    if timeout(m) <= n {
+        times_out(m, x)
+    } else {
+        waited(n, x)
+    }
 }
 
 // "answered, 345h takes the data that others drive, SELDI becomes 1 ... and with ENAUTOATNI 343h bit 4 is set"
@@ -126,7 +134,11 @@ fn reselected(m: &Image, x: Sequenced) -> Sequenced
 fn answering_for(m: &Image, n: u32, x: Sequenced) -> Sequenced
     ensures { λ r. ⌜ r ≡ answeringFor (stateAt (now (m .entry))) n x ⌝ }
 {
-    if 8 <= n { reselected(m, x) } else { waited(n, x) }
+    if 8 <= n {
+        reselected(m, x)
+    } else {
+        waited(n, x)
+    }
 }
 
 // One tick more, or 0 ticks.

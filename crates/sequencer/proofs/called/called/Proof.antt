@@ -9,7 +9,7 @@ use Rattle.sequencer.proofs.called.called.Tie as tie
 
 returns : tie.Need-returns
 unfolding stateAt called
-returns c = 
+returns c =
     let bsy = c .before in
     let io = bsy .before in
     let sel = io .before .before in

@@ -18,7 +18,7 @@ unfolding selected
 by-tests s x e f g = λ i. cond ((e i || f i) && g i) (connects s x) x
 
 returns : tie.Need-returns
-returns c = 
+returns c =
     let bsy = c .before .before in
     let second = bsy .before in
     let first = second .before in
@@ -28,7 +28,7 @@ returns c =
     ∙ rw (c .before .if1 .taken) at (by-tests (stateAt (start .args .m .now)) (start .args .x) (first .is-phase .ensures ∙ ap (isPhase Selecting) (phase .phase-in .ensures)) (second .is-phase2 .ensures ∙ ap (isPhase Holding) (phase .phase-in .ensures)) (bsy .bsy-of-others .ensures))
 
 returns-2 : tie.Need-returns-2
-returns-2 c = 
+returns-2 c =
     let bsy = c .before in
     let second = bsy .before in
     let first = second .before in

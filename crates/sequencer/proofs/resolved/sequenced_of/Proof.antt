@@ -9,7 +9,7 @@ use Rattle.sequencer.proofs.resolved.sequenced_of.Tie as tie
 
 returns : tie.Need-returns
 unfolding stateAt sequencedOf
-returns c = 
+returns c =
     let m = c .before .before .before .before .before .args .m .now in
     λ i.
     record {

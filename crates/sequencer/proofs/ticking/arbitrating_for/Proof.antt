@@ -11,7 +11,7 @@ use Rattle.sequencer.proofs.ticking.arbitrating_for.Tie as tie
 
 returns : tie.Need-returns
 unfolding arbitratingFor
-returns c = 
+returns c =
     let start = c .before .before .before .before in
     let chosen = c .before .arbitrated .ensures ∙ ap (λ (b : Bool). cond b Waiting Clearing) (c .before .before .higher-id .ensures) in
     rw (le-leb 48 (start .args .n) (c .before .before .before .if1 .taken)) (c .entered .ensures ∙ ap (λ (p : Phase). entered p (start .args .x)) chosen)

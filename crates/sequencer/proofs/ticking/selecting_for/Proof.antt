@@ -7,14 +7,14 @@ use Rattle.sequencer.proofs.ticking.selecting_for.Tie as tie
 
 returns : tie.Need-returns
 unfolding selectingFor
-returns c = 
+returns c =
     let start = c .before .before .before in
     let t = c .before .before .timeout in
     rw (← t .ensures, le-leb (t .result) (start .args .n) (c .before .if1 .taken)) (c .times-out .ensures)
 
 returns-2 : tie.Need-returns-2
 unfolding selectingFor
-returns-2 c = 
+returns-2 c =
     let start = c .before .before .before in
     let t = c .before .before .timeout in
     rw (← t .ensures, lt-leb (t .result) (start .args .n) (c .before .if1 .left)) (c .waited .ensures)

@@ -10,7 +10,7 @@ use Rattle.sequencer.proofs.ticking.times_out.Tie as tie
 
 returns : tie.Need-returns
 unfolding stateAt timesOut
-returns c = 
+returns c =
     let start = c .before .before .before .before .before .before in
     let x = start .args .x in
     let told = c .before .before .before in
