@@ -6,7 +6,7 @@ use Rattle.rules.specs.State.{State}
 use Rattle.rules.specs.Answers.{Stepped, answerOf, answerBytes}
 use Rattle.rules.specs.Ranges.{InRange, InBytes}
 use Rattle.rules.specs.Step.{step}
-use Rattle.rules.proofs.Ranges.{step-fits, step-bytes}
+use Rattle.rules.proofs.Ranges.{step-in-range, step-bytes}
 use Rattle.image.specs.Image.{imageOf, stateAt, IsImage}
 use Rattle.reads.specs.Answering.{answerWith}
 use Rattle.reads.proofs.AnswerParts.{answer-parts}
@@ -19,7 +19,7 @@ module _ {m : List ℕ} (g : IsImage m) (bytes : List ℕ) {n : List ℕ} {o : O
   x = step (stateAt m) bytes
 
   range : InRange (x .state)
-  range = step-fits (stateAt m) bytes (g .range) .state
+  range = step-in-range (stateAt m) bytes (g .range)
 
   in-bytes : InBytes (x .state)
   in-bytes = step-bytes (stateAt m) bytes (g .range) (g .bytes) .state

@@ -1,3 +1,4 @@
 pub mod Closing
 pub mod Outcomes
 pub mod Opening
+pub mod Totals

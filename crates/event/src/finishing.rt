@@ -8,11 +8,11 @@ ghost use Rattle.event.specs.Opening.{Ready};
 use crate::closing::closed_in;
 use crate::stepping::Outcome;
 use edges::last::Seen;
-use edges::since::edges_since;
 use image::bus::path;
 use image::layout::Image;
 use image::layout::STATUS;
 use rules::codes::Code;
+use sequencer::bus_in;
 use settling::settle;
 
 // 6 if B found a REQ beyond the limit, else 0.
@@ -39,7 +39,7 @@ pub fn finished(
     ensures { λ r. ⌜ ((w : Ready (now (m .entry)) seen before0 before1 ticks value) → Leaves (done (w .state) (w .event)) (now (m .exit)) r) ⌝ }
 {
     let status = m[STATUS];
-    let beyond = edges_since(m, seen, ticks);
+    let beyond = bus_in(m, seen, ticks);
     let way = path(m);
     let t = settle(m);
     closed_in(m, before0, before1, status, t.acks, way);

@@ -2,5 +2,6 @@
 mod closing;
 mod finishing;
 mod opening;
+mod passing;
 mod reset;
 pub mod stepping;

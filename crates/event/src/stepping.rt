@@ -2,9 +2,13 @@
 ghost use mathlib.Core.Path.{_≡_};
 ghost use Rattle.rules.specs.Step.{step};
 ghost use Rattle.image.specs.Image.{IsImage, stateAt};
+ghost use Prim.Native.Nat.{min};
 ghost use Rattle.event.specs.Outcomes.{Leaves, Gives, endedAs};
+ghost use Rattle.event.specs.Totals.{Sums, summed};
 use crate::finishing::finished;
 use crate::opening::opened;
+use crate::passing::passed;
+use crate::passing::together;
 use edges::since::seen_in;
 use fifos::sent::Sent;
 use image::layout::Image;
@@ -12,6 +16,7 @@ use image::layout::SIMODE0;
 use image::layout::SIMODE1;
 use reads::answers::answer_of;
 use rules::codes::Code;
+use settling::Told;
 
 // What an event gives beside the new state; the bytes sent by value with their count.
 pub struct Outcome {
@@ -42,7 +47,38 @@ fn ended(code: Code, value: u16) -> Outcome
     }
 }
 
-// A record on an image.
+// The first tick by itself, or none.
+fn at_most_one(ticks: u32) -> u32
+    ensures { λ n. ⌜ n ≡ min ticks 1 ⌝ }
+{
+    if ticks < 1 { 0 } else { 1 }
+}
+
+// "its moves, ACKs and bytes sent are those of its ticks together"
+fn after_first(first: Outcome, rest: Told) -> Outcome
+    requires { ⌜ Sums (first .moves) (first .acks) (first .sent) rest ⌝ }
+    ensures { λ r. ⌜ r ≡ summed (first .moves) (first .acks) (first .sent) rest ⌝ }
+{
+    let sent = first.sent;
+    let t = together(
+        Told {
+            moves: first.moves,
+            acks: first.acks,
+            sent: sent,
+        },
+        rest,
+    );
+    let all = t.sent;
+    Outcome {
+        code: Code::Done,
+        value: 0,
+        moves: t.moves,
+        acks: t.acks,
+        sent: all,
+    }
+}
+
+// A record on an image; ticks after the first come one by one, or as many as only count at once.
 pub fn outcome_of(m: &mut Image, bytes: &[u8]) -> Outcome
     requires { ⌜ IsImage (now m) ⌝ }
     ensures { λ r. ⌜ Leaves (step (stateAt (now (m .entry))) (now (bytes .entry))) (now (m .exit)) r ⌝ }
@@ -55,7 +91,12 @@ pub fn outcome_of(m: &mut Image, bytes: &[u8]) -> Outcome
         let code = a.code;
         return ended(code, a.value);
     }
-    finished(m, seen, before0, before1, a.ticks, a.value)
+    let first = finished(m, seen, before0, before1, at_most_one(a.ticks), a.value);
+    if a.ticks < 2 {
+        return first;
+    }
+    let rest = passed(m, a.ticks - 1);
+    after_first(first, rest)
 }
 
 // A record on an image, and its answer.

@@ -1,10 +1,11 @@
 -- Two bytes tell that the sequencer has nothing to do.
-use Prim.Native.Nat.{ℕ, _/_, _%_, _^_}
+use Prim.Native.Nat.{ℕ, _+_, _*_, _/_, _%_, _^_}
 use mathlib.Core.Path.{_≡_, refl, ap, sym, _∙_}
 use mathlib.Core.Bool.{Bool, true, false, not, _&&_}
 use mathlib.Core.List.{List}
 use native.Mathlib.Omega.{arith}
 use lib.Dec.{eqb}
+use lib.Pow.{mod-pow-add}
 use lib.ListN.{getD}
 use borrow.Author.Tests.{eqb-true}
 use Rattle.rules.specs.Numbers.{bit}
@@ -27,8 +28,9 @@ dormant-at m h =
     let low = eqb (q % 16) 0 in
     let first : (low && not (bit v 6)) ≡ true = left-true (low && not (bit v 6)) (not (bit v 4)) h in
     let z : q % 16 ≡ 0 = eqb-true (q % 16) 0 (left-true low (not (bit v 6)) first) in
-    let p : q % 8 ≡ 0 = omega arith in
-    let d : q / 2 ^ 3 % 2 ≡ 0 = omega arith in
+    let parts : q % 16 ≡ (q / 2 ^ 3 % 2) * 2 ^ 3 + q % 2 ^ 3 = mod-pow-add q 1 3 in
+    let p : q % 8 ≡ 0 = omega (arith, parts, z) in
+    let d : q / 2 ^ 3 % 2 ≡ 0 = omega (arith, parts, z) in
     record {
       enselo = off (bit v 6) (right-true low (not (bit v 6)) first);
       enrseli = off (bit v 4) (right-true (low && not (bit v 6)) (not (bit v 4)) h);

@@ -8,7 +8,7 @@ use Rattle.rules.proofs.Ranges.{four-fits, bytes-four, sequencer-fits}
 use Rattle.image.specs.Image.{imageOf, stateAt, IsImage}
 use Rattle.edges.specs.Since.{lastOf}
 use Rattle.sequencer.specs.Since.{busSince}
-use Rattle.sequencer.proofs.Placed.{reads-back, packed-back, image-again}
+use Rattle.sequencer.proofs.InPlace.{reads-back, packed-back, image-again, quiet-at}
 use Rattle.sequencer.proofs.bus_active.Statement.{statement}
 use Rattle.sequencer.proofs.bus_active.Tie as tie
 
@@ -33,7 +33,7 @@ phase-since-requires c κs =
     let f = four-fits l (a .ticks) s (start .pre .range) in
     let back = reads-back four (edged .edges-before .ensures .1) f in
     packed-back (afterSequencer (ltb 0 (a .ticks)) (s .quiet) four)
-    (sequenced .sequenced-in .ensures ∙ ap (λ (t : State). imageOf (afterSequencer (ltb 0 (a .ticks)) (s .quiet) t)) back)
+    (sequenced .sequenced-in .ensures ∙ (λ i. imageOf (afterSequencer (ltb 0 (a .ticks)) (quiet-at (a .m .now) i) (back i))))
     (sequencer-fits four (ltb 0 (a .ticks)) (s .quiet) f)
 
 returns : tie.Need-returns
@@ -49,7 +49,7 @@ returns c =
     let f = four-fits l (a .ticks) s (start .pre .range) in
     let back = reads-back four (edged .edges-before .ensures .1) f in
     let t = afterSequencer (ltb 0 (a .ticks)) (s .quiet) four in
-    let e = sequenced .sequenced-in .ensures ∙ ap (λ (n : State). imageOf (afterSequencer (ltb 0 (a .ticks)) (s .quiet) n)) back in (
+    let e = sequenced .sequenced-in .ensures ∙ (λ i. imageOf (afterSequencer (ltb 0 (a .ticks)) (quiet-at (a .m .now) i) (back i))) in (
       edged .edges-before .ensures .0,
       c .phase-since .ensures ∙ ap (λ (n : State). imageOf (afterPhaseChanges l n)) (reads-back t e (sequencer-fits four (ltb 0 (a .ticks)) (s .quiet) f)),
     )

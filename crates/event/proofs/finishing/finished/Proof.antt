@@ -9,8 +9,8 @@ use Rattle.event.proofs.ThroughAll as all
 use Rattle.event.proofs.finishing.finished.Statement.{statement}
 use Rattle.event.proofs.finishing.finished.Tie as tie
 
-edges-since-requires : tie.Need-edges-since-requires
-edges-since-requires c κs =
+bus-in-requires : tie.Need-bus-in-requires
+bus-in-requires c κs =
     let w = c .before .before .pre in
     b.image-a (w .state) (w .range) (w .bytes) (w .event) (w .fits) (w .done) (w .made)
 
@@ -20,7 +20,7 @@ settle-requires c κs =
     let start = found .before .before .before in
     let w = start .pre in
     let seen = start .args .seen in
-    b.image-b (w .state) (w .range) (w .bytes) (w .event) (w .fits) (w .done) (w .made) seen (w .rst) (w .req) (w .ticks) (w .mismatched) (found .edges-since .ensures .1)
+    b.image-b (w .state) (w .range) (w .bytes) (w .event) (w .fits) (w .done) (w .made) seen (w .rst) (w .req) (w .ticks) (w .mismatched) (found .bus-in .ensures .1)
 
 closed-in-requires : tie.Need-closed-in-requires
 closed-in-requires c κs =
@@ -32,7 +32,7 @@ closed-in-requires c κs =
     let seen = start .args .seen in
     let f = b.b-fits (w .state) (w .range) (w .bytes) (w .event) (w .fits) (w .done) (w .made) in
     let g = b.b-bytes (w .state) (w .range) (w .bytes) (w .event) (w .fits) (w .done) (w .made) in
-    let h = b.is-b (w .state) (w .range) (w .bytes) (w .event) (w .fits) (w .done) (w .made) seen (w .rst) (w .req) (w .ticks) (w .mismatched) (found .edges-since .ensures .1) in
+    let h = b.is-b (w .state) (w .range) (w .bytes) (w .event) (w .fits) (w .done) (w .made) seen (w .rst) (w .req) (w .ticks) (w .mismatched) (found .bus-in .ensures .1) in
     (all.image-c (w .state) (w .event) f g h (settled .settle .ensures), all.way-kept (w .state) (w .event) f g h (settled .settle .ensures) (way .path .ensures))
 
 abbrev beyond-code : Bool → Code
@@ -47,11 +47,11 @@ returns c =
     let seen = found .before .before .before .args .seen in
     λ w.
     all.leaves (w .state) (w .event) (b.b-fits (w .state) (w .range) (w .bytes) (w .event) (w .fits) (w .done) (w .made)) (b.b-bytes (w .state) (w .range) (w .bytes) (w .event) (w .fits) (w .done) (w .made))
-    (b.is-b (w .state) (w .range) (w .bytes) (w .event) (w .fits) (w .done) (w .made) seen (w .rst) (w .req) (w .ticks) (w .mismatched) (found .edges-since .ensures .1)) (settled .settle .ensures)
+    (b.is-b (w .state) (w .range) (w .bytes) (w .event) (w .fits) (w .done) (w .made) seen (w .rst) (w .req) (w .ticks) (w .mismatched) (found .bus-in .ensures .1)) (settled .settle .ensures)
     (w .simode0) (w .simode1) (status-of _ (b.state-a (w .state) (w .range) (w .bytes) (w .event) (w .fits) (w .done) (w .made))) (closed .closed-in .ensures)
-    (code .code-of .ensures ∙ ap beyond-code (b.beyond-is (w .state) (w .range) (w .bytes) (w .event) (w .fits) (w .done) (w .made) seen (w .rst) (w .req) (w .ticks) (found .edges-since .ensures .0))) (w .value)
+    (code .code-of .ensures ∙ ap beyond-code (b.beyond-is (w .state) (w .range) (w .bytes) (w .event) (w .fits) (w .done) (w .made) seen (w .rst) (w .req) (w .ticks) (found .bus-in .ensures .0))) (w .value)
 
 pub finished-spec : {M : Type 1} → statement M
 finished-spec =
     tie.close
-    (tie.spec (λ c. search needs) edges-since-requires (λ c κs. search needs) settle-requires closed-in-requires (λ c κs. search needs) returns)
+    (tie.spec (λ c. search needs) bus-in-requires (λ c κs. search needs) settle-requires closed-in-requires (λ c κs. search needs) returns)

@@ -3,7 +3,7 @@ use lib.ListN.{set}
 use borrow.Author.Needs.{needs}
 use Rattle.image.specs.Image.{stateAt}
 use Rattle.image.specs.Layout.{quietPlace, scsiseqPlace, scsisigPlace}
-use Rattle.sequencer.proofs.Placed.{sequenced-image}
+use Rattle.sequencer.proofs.InPlace.{sequenced-image}
 use Rattle.sequencer.proofs.placed.sequenced_put.Statement.{statement}
 use Rattle.sequencer.proofs.placed.sequenced_put.Tie as tie
 

@@ -30,3 +30,8 @@ module _ {m : List ℕ} (s : State) (e : m ≡ imageOf s) (r : InRange s) where
 
   pub image-again : InBytes s → IsImage m
   image-again b = subst IsImage (sym e) (is-image s r b)
+
+-- the quiet ticks in their place
+pub quiet-at : (m : List ℕ) → getD m quietPlace 0 ≡ (stateAt m) .quiet
+unfolding stateAt
+quiet-at m = refl
