@@ -1,5 +1,6 @@
 pub mod Answered
 pub mod AfterSettling
+pub mod Ticking
 pub mod Starts
 pub mod RecordTells
 pub mod ThroughAll

@@ -1,5 +1,6 @@
 -- From what A left: the answer is ready, or B, C and D are to come.
-use Prim.Native.Nat.{ℕ}
+use Prim.Native.Nat.{ℕ, zero, suc, _<_, min}
+use native.Mathlib.Omega.{arith}
 use mathlib.Core.Path.{_≡_, refl, ap, sym, _∙_}
 use mathlib.Core.Bool.{Bool, true, false, not}
 use mathlib.Core.List.{List}
@@ -8,7 +9,7 @@ use Rattle.rules.specs.Seen.{rstSeen, reqSeen, mismatched}
 use Rattle.rules.specs.Registers.{simode0Of, simode1Of}
 use Rattle.rules.specs.Codes.{accessCode, isDone, refusedValue}
 use Rattle.rules.specs.Ranges.{InRange, InBytes, EventFits, DecodedFits}
-use Rattle.rules.specs.Step.{ended, refused, done, access, stepEvent, stepDecoded}
+use Rattle.rules.specs.Step.{ended, refused, done, access, joined, singleTicks, ticksTaken, stepEvent, stepDecoded}
 use Rattle.rules.specs.Answers.{Stepped}
 use Rattle.rules.specs.declared.codes.Code.{Code}
 use Rattle.rules.specs.declared.codes.Code.the-variants.{Done, Malformed}
@@ -16,7 +17,12 @@ use Rattle.rules.specs.declared.records.Event.{Event}
 use Rattle.rules.specs.declared.records.Event.the-variants.{PowerReset, Write, Read, WordWrite, WordRead, Drive, Ticks}
 use Rattle.rules.specs.declared.records.Decoded.{Decoded}
 use Rattle.rules.specs.declared.records.Decoded.the-variants.{Well, Ill}
+use Rattle.rules.specs.Events.{writes, reads, valueOf, ticksOf, linesAfter, offered, asked, portWrite}
+use Rattle.rules.specs.Reads.{valueRead}
+use Rattle.rules.specs.StepA.{clears, clearsLatch, clearsError, clrstcnt, clrch, rstfifo, latchAccess, automaticAck, registersA, hostA, counterA, transferA, errorA, statusA, latchesA, stackA, identityA, givesUp, selectionA, notedA, selectionLatchesA, sequencerA, afterA}
 use Rattle.rules.proofs.Logic.{never}
+use Rattle.rules.proofs.Still.{ticks-done}
+use Rattle.event.proofs.Ticking.{one-tick}
 use Rattle.effects.proofs.DoneCode.{code-done}
 use Rattle.fifos.specs.Fifos.{sentOf}
 use Rattle.image.specs.Image.{imageOf}
@@ -60,7 +66,7 @@ leaves-as p l =
       sent = l .sent ∙ ap (λ (x : Stepped). sentOf (x .sent)) p;
     }
 
-module _ (s : State) {m : List ℕ} (a : Acted) where
+module _ (s : State) (i : InRange s) {m : List ℕ} (a : Acted) where
   ends-leaves : (t : State) (code : Code) (value : ℕ) → Ends t code value m a → Leaves (refused t code value) m (endedAs (a .code) (a .value))
   ends-leaves t code value x = refused-leaves t (x .image) (ap (λ (y : Acted). y .code) (x .acted)) (ap (λ (y : Acted). y .value) (x .acted))
 
@@ -68,6 +74,13 @@ module _ (s : State) {m : List ℕ} (a : Acted) where
   acts-leaves e x h =
       let f : isDone (accessCode s e) ≡ false = not-true (isDone (accessCode s e)) (x .ends) h in
       leaves-as (access-refused s e f) (refused-leaves s (rw f at (x .image)) (x .code) (rw f at (x .value)))
+
+  -- ticks are never refused
+  ticks-leaves : (n : ℕ) → Acts s (Ticks n) m a → a .ends ≡ true → Leaves (ticksTaken n s) m (endedAs (a .code) (a .value))
+  unfolding ticksTaken
+  ticks-leaves zero x h = acts-leaves (Ticks 0) x h
+  ticks-leaves (suc n) x h =
+      absurd (never (sym (not-true (isDone (accessCode s (Ticks (suc n)))) (x .ends) h) ∙ ap isDone (ticks-done s (suc n) (i .transfer .host))))
 
   event-leaves : (e : Event) → OpensEvent s e m a → a .ends ≡ true → Leaves (stepEvent s e) m (endedAs (a .code) (a .value))
   unfolding stepEvent
@@ -77,21 +90,27 @@ module _ (s : State) {m : List ℕ} (a : Acted) where
   event-leaves (WordWrite w) x h = acts-leaves (WordWrite w) x h
   event-leaves WordRead x h = acts-leaves WordRead x h
   event-leaves (Drive l) x h = acts-leaves (Drive l) x h
-  event-leaves (Ticks n) x h = acts-leaves (Ticks n) x h
+  event-leaves (Ticks n) x h = ticks-leaves n x h
 
   pub opens-leaves : (d : Decoded) → Opens s d m a → a .ends ≡ true → Leaves (stepDecoded s d) m (endedAs (a .code) (a .value))
   unfolding stepDecoded
   opens-leaves (Well e) x h = event-leaves e x h
   opens-leaves Ill x h = ends-leaves s Malformed 0 x
 
--- what B, C and D take up, and that they give the step
+-- what B, C and D take up, of the first tick where there are several; and that with the ticks after it they give the step
 pub record Onward (y : Stepped) (m : List ℕ) (x : Seen) (before0 before1 ticks value : ℕ) : Type 0 where
-  pub ready : Ready m x before0 before1 ticks value
-  pub step : done (ready .state) (ready .event) ≡ y
+  pub ready : Ready m x before0 before1 (min ticks 1) value
+  pub few : ticks < 2 → done (ready .state) (ready .event) ≡ y
+  pub many : (k : ℕ) → ticks ≡ suc (suc k) → joined (done (ready .state) (ready .event)) (singleTicks (suc k) ((done (ready .state) (ready .event)) .state)) ≡ y
+
+-- A of ticks is that of one
+a-ticks : (s : State) (n : ℕ) → afterA s (Ticks n) ≡ afterA s (Ticks 1)
+unfolding afterA linesAfter registersA transferA hostA counterA statusA errorA latchesA stackA identityA sequencerA givesUp selectionA notedA selectionLatchesA automaticAck latchAccess clrstcnt clrch rstfifo clears clearsLatch clearsError writes reads valueOf offered asked portWrite
+a-ticks s n = refl
 
 module _ (s : State) (i : InRange s) (j : InBytes s) {m : List ℕ} (a : Acted) {seen : Seen} {before0 before1 : ℕ} (p : rstOf seen ≡ rstSeen s) (q : reqOf seen ≡ reqSeen s) (r : mismatchedOf seen ≡ mismatched s) (y : simode0Of before0 ≡ s .registers .simode0) (z : simode1Of before1 ≡ s .registers .simode1) where
-  acts-onward : (e : Event) → EventFits e → Acts s e m a → a .ends ≡ false → Onward (access s e) m seen before0 before1 (a .ticks) (a .value)
-  acts-onward e f x h =
+  acts-onward : (e : Event) → EventFits e → ticksOf e ≡ 0 → Acts s e m a → a .ends ≡ false → Onward (access s e) m seen before0 before1 (a .ticks) (a .value)
+  acts-onward e f none x h =
       let t : isDone (accessCode s e) ≡ true = not-false (isDone (accessCode s e)) (x .ends) h in
       record {
         ready =
@@ -108,24 +127,69 @@ module _ (s : State) (i : InRange s) (j : InBytes s) {m : List ℕ} (a : Acted) 
               mismatched = r;
               simode0 = y;
               simode1 = z;
-              ticks = x .ticks;
+              ticks = omega (arith, x .ticks, none);
               value = rw t at (x .value);
             };
-        step = access-done s e t;
+        few = λ l. access-done s e t;
+        many = λ k l. absurd (omega (arith, x .ticks, none, l));
+      }
+
+  -- the first of several ticks
+  first-ready : (n : ℕ) → Acts s (Ticks (suc n)) m a → a .ends ≡ false → Ready m seen before0 before1 (min (a .ticks) 1) (a .value)
+  unfolding valueRead ticksOf
+  first-ready n x h =
+      let t : isDone (accessCode s (Ticks (suc n))) ≡ true = not-false (isDone (accessCode s (Ticks (suc n)))) (x .ends) h in
+      record {
+        state = s;
+        event = Ticks 1;
+        fits = omega arith;
+        done = ticks-done s 1 (i .transfer .host);
+        range = i;
+        bytes = j;
+        made = (rw t at (x .image)) ∙ ap imageOf (a-ticks s (suc n));
+        rst = p;
+        req = q;
+        mismatched = r;
+        simode0 = y;
+        simode1 = z;
+        ticks = omega (arith, x .ticks);
+        value = rw t at (x .value);
+      }
+
+  first-done : done s (Ticks 1) ≡ access s (Ticks 1)
+  first-done = access-done s (Ticks 1) (ap isDone (ticks-done s 1 (i .transfer .host)))
+
+  only-one : (n : ℕ) → n ≡ 0 → done s (Ticks 1) ≡ singleTicks (suc n) s
+  only-one n e = first-done ∙ sym (one-tick s i) ∙ ap (λ (k : ℕ). singleTicks (suc k) s) (sym e)
+
+  after-one : (n k : ℕ) → n ≡ suc k → joined (done s (Ticks 1)) (singleTicks (suc k) ((done s (Ticks 1)) .state)) ≡ singleTicks (suc n) s
+  unfolding singleTicks
+  after-one n k e =
+      (λ v. joined (first-done v) (singleTicks (suc k) ((first-done v) .state)))
+      ∙ ap (λ (l : ℕ). joined (access s (Ticks 1)) (singleTicks l ((access s (Ticks 1)) .state))) (sym e)
+
+  ticks-onward : (n : ℕ) → EventFits (Ticks n) → Acts s (Ticks n) m a → a .ends ≡ false → Onward (ticksTaken n s) m seen before0 before1 (a .ticks) (a .value)
+  unfolding ticksTaken ticksOf
+  ticks-onward zero f x h = acts-onward (Ticks 0) f refl x h
+  ticks-onward (suc n) f x h =
+      record {
+        ready = first-ready n x h;
+        few = λ l. only-one n (omega (arith, x .ticks, l));
+        many = λ k l. after-one n k (omega (arith, x .ticks, l));
       }
 
   never-ended : (t : State) (code : Code) (value : ℕ) {x : Stepped} → Ends t code value m a → a .ends ≡ false → Onward x m seen before0 before1 (a .ticks) (a .value)
   never-ended t code value x h = absurd (never (sym h ∙ ap (λ (y : Acted). y .ends) (x .acted)))
 
   event-onward : (e : Event) → EventFits e → OpensEvent s e m a → a .ends ≡ false → Onward (stepEvent s e) m seen before0 before1 (a .ticks) (a .value)
-  unfolding stepEvent
+  unfolding stepEvent ticksOf
   event-onward PowerReset f x h = never-ended powerReset Done 0 x h
-  event-onward (Write o v) f x h = acts-onward (Write o v) f x h
-  event-onward (Read o) f x h = acts-onward (Read o) f x h
-  event-onward (WordWrite w) f x h = acts-onward (WordWrite w) f x h
-  event-onward WordRead f x h = acts-onward WordRead f x h
-  event-onward (Drive l) f x h = acts-onward (Drive l) f x h
-  event-onward (Ticks n) f x h = acts-onward (Ticks n) f x h
+  event-onward (Write o v) f x h = acts-onward (Write o v) f refl x h
+  event-onward (Read o) f x h = acts-onward (Read o) f refl x h
+  event-onward (WordWrite w) f x h = acts-onward (WordWrite w) f refl x h
+  event-onward WordRead f x h = acts-onward WordRead f refl x h
+  event-onward (Drive l) f x h = acts-onward (Drive l) f refl x h
+  event-onward (Ticks n) f x h = ticks-onward n f x h
 
   pub opens-onward : (d : Decoded) → DecodedFits d → Opens s d m a → a .ends ≡ false → Onward (stepDecoded s d) m seen before0 before1 (a .ticks) (a .value)
   unfolding stepDecoded

@@ -873,7 +873,7 @@ single-in-range zero s i = i
 single-in-range (suc n) s i =
     single-in-range n ((access s (Ticks 1)) .state) (access-fits s (Ticks 1) (omega arith) i .state)
 
-single-bytes : (n : ℕ) (s : State) → InRange s → InBytes s → StepBytes (singleTicks n s)
+pub single-bytes : (n : ℕ) (s : State) → InRange s → InBytes s → StepBytes (singleTicks n s)
 unfolding singleTicks
 single-bytes zero s i j = ended-bytes s Done 0 (omega arith) j
 single-bytes (suc n) s i j =

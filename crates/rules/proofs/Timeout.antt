@@ -1,7 +1,7 @@
 -- R-1: "a selection that nobody answers, with ENSTIMER set and STIMESEL, RST and 340h left alone, ends by SELTO at exactly its limit".
 use mathlib.Core.Path.{_≡_, refl, ap, sym, subst, _∙_}
 use mathlib.Core.Bool.{Bool, true, false, not, _&&_, _||_, cond, and-not-self, or-true}
-use Prim.Native.Nat.{ℕ, zero, suc, _+_, _*_, _≤_, _<_}
+use Prim.Native.Nat.{ℕ, zero, suc, _+_, _*_, _/_, _^_, _≤_, _<_}
 use native.Mathlib.Nat.{add-zero, zero-add}
 use native.Mathlib.Omega.{arith}
 use lib.Dec.{leb}
@@ -9,6 +9,7 @@ use mathlib.Core.List.{[], _∷_}
 use lib.ListN.{length, getD}
 use borrow.Author.Tests.{le-leb, lt-leb, le-ltb}
 use Rattle.rules.specs.Numbers.{one, bit}
+use Rattle.rules.specs.Registers.{sxfrctl1Of}
 use Rattle.rules.specs.State.{State}
 use Rattle.rules.specs.Ranges.{InRange}
 use Rattle.rules.specs.Changed.{withQuiet}
@@ -410,3 +411,12 @@ unanswered-ends s i u z = record { before = before; at = at }
     at : (n : ℕ) → n ≡ timeout (s .registers) → TimedOut s ((ticksTaken n s) .state)
     at zero e = absurd (omega (arith, timeout-most (s .registers)))
     at (suc m) e = ends s u m 0 s i fresh (omega arith)
+
+-- "the timeouts of 342h: 5,120,000, 2,560,000, 1,280,000 and 640,000 ticks", by the code that STIMESEL has in 342h
+pub limits-are : (r : Registers) (code : ℕ) → r .sxfrctl1 ≡ sxfrctl1Of (code * 8) → code < 4 → timeout r ≡ 5120000 / 2 ^ code
+unfolding timeout
+limits-are r zero e h = rw e
+limits-are r (suc zero) e h = rw e
+limits-are r (suc (suc zero)) e h = rw e
+limits-are r (suc (suc (suc zero))) e h = rw e
+limits-are r (suc (suc (suc (suc n)))) e h = absurd (omega arith)
