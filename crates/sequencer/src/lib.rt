@@ -18,6 +18,7 @@ mod changes;
 mod placed;
 mod raised;
 mod resolved;
+pub mod skipping;
 mod ticking;
 
 // Idle, SELINGO 0, neither ENSELO nor ENRESELI: the sequencer has nothing to do, whatever the lines.
