@@ -20,7 +20,8 @@ use Rattle.rules.specs.declared.map.Register.{Register}
 use Rattle.rules.specs.declared.records.Event.{Event}
 use Rattle.rules.proofs.Logic.{never}
 use Rattle.rules.proofs.Packing.{padded-take}
-use Rattle.rules.proofs.Ranges.{one-fits, step-fits, step-bytes}
+use Rattle.rules.proofs.Ranges.{one-fits, step-bytes}
+use Rattle.rules.proofs.Reports.{step-fits}
 use Rattle.runs.specs.Comes.{says, eventBytes, unlessRefused, mayCome as recordMayCome}
 use Rattle.runs.specs.Run.{accepted, sentBy, hostRead, lowBytes}
 use Rattle.runs.specs.Cut.{readAnswer}

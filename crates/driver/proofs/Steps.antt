@@ -15,7 +15,7 @@ use Rattle.rules.specs.Step.{Called, called, ended, refused, step, answer, afte
 use Rattle.rules.specs.declared.chip.Chip.{Chip}
 use Rattle.rules.specs.declared.codes.Code.the-variants.{Malformed}
 use Rattle.rules.proofs.Logic.{never}
-use Rattle.rules.proofs.Ranges.{answer-fits}
+use Rattle.rules.proofs.Reports.{answer-fits}
 use Rattle.step.specs.declared.Returned.{Returned}
 use Rattle.step.specs.Outcomes.{returnedOf, IsStep}
 use Rattle.step.specs.Runs.{recordsOf, joined}

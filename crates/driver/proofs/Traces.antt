@@ -9,7 +9,7 @@ use Rattle.rules.specs.Step.{step, after}
 use Rattle.rules.specs.declared.map.Register.{Register}
 use Rattle.rules.specs.declared.records.Event.{Event}
 use Rattle.rules.proofs.Logic.{left-true, right-true}
-use Rattle.rules.proofs.Ranges.{step-fits, step-bytes}
+use Rattle.rules.proofs.Ranges.{step-in-range, step-bytes}
 use Rattle.runs.specs.Comes.{allCome, along, mayCome as recordMayCome}
 use Rattle.runs.specs.Run.{runAllows, accepted, sentBy, hostRead}
 use Rattle.runs.specs.Cut.{readAnswer}
@@ -40,7 +40,7 @@ trace-append s (x ∷ a) b t =
 -- a state in range stays in range
 pub ranged-step : (s : State) (bytes : List ℕ) → Ranged s → Ranged ((step s bytes) .state)
 ranged-step s bytes i =
-    record { range = step-fits s bytes (i .range) .state; bytes = step-bytes s bytes (i .range) (i .bytes) .state }
+    record { range = step-in-range s bytes (i .range); bytes = step-bytes s bytes (i .range) (i .bytes) .state }
 
 pub ranged-after : (s : State) (records : List (List ℕ)) → Ranged s → Ranged (after s records)
 ranged-after s [] i = i
