@@ -20,10 +20,10 @@ module _ (s : State) (e : Event) where
   settledState = withTransfer ((settledC s e) .transfer) (afterB s e)
 
   pub settled-range : InRange (afterB s e) → InRange settledState
-  settled-range i = record { registers = i .registers; transfer = settled-fits s e i; stack = i .stack; quiet = i .quiet; identity = i .identity }
+  settled-range i = record { registers = i .registers; transfer = settled-fits s e i; stack = i .stack; quiet = i .quiet; identity = i .identity; sequencer = i .sequencer }
 
   pub settled-in-bytes : InBytes (afterB s e) → InBytes settledState
-  settled-in-bytes j = record { lines = j .lines; registers = j .registers; transfer = settled-bytes s e j .transfer; stack = j .stack }
+  settled-in-bytes j = record { lines = j .lines; registers = j .registers; transfer = settled-bytes s e j .transfer; stack = j .stack; selid = j .selid }
 
   pub all-of-d : closedBy (s .registers .simode0) (s .registers .simode1) ((afterA s e) .status) ((settledC s e) .acks) settledState ≡ afterD s e
   unfolding closedBy afterD finished ackSeen ackDriven

@@ -21,7 +21,9 @@ use Rattle.rules.specs.Events.{writes, reads, valueOf, ticksOf, linesAfter, off
 use Rattle.rules.specs.Reads.{valueRead}
 use Rattle.rules.specs.StepA.{clears, clearsLatch, clearsError, clrstcnt, clrch, rstfifo, latchAccess, automaticAck, registersA, hostA, counterA, transferA, errorA, statusA, latchesA, stackA, identityA, givesUp, selectionA, notedA, selectionLatchesA, sequencerA, afterA}
 use Rattle.rules.proofs.Logic.{never}
-use Rattle.rules.proofs.Still.{ticks-done}
+use Rattle.rules.specs.Rest.{AtRest}
+use Rattle.rules.proofs.Ranges.{bytes-after-a, after-b-fits, bytes-after-b, after-d, bytes-after-d}
+use Rattle.rules.proofs.Still.{ticks-done, done-rests}
 use Rattle.event.proofs.Ticking.{one-tick}
 use Rattle.effects.proofs.DoneCode.{code-done}
 use Rattle.fifos.specs.Fifos.{sentOf}
@@ -103,6 +105,20 @@ pub record Onward (y : Stepped) (m : List ℕ) (x : Seen) (before0 before1 ticks
   pub few : ticks < 2 → done (ready .state) (ready .event) ≡ y
   pub many : (k : ℕ) → ticks ≡ suc (suc k) → joined (done (ready .state) (ready .event)) (singleTicks (suc k) ((done (ready .state) (ready .event)) .state)) ≡ y
 
+-- a tick by itself
+pub tick-done : (s : State) → InRange s → done s (Ticks 1) ≡ access s (Ticks 1)
+tick-done s i = access-done s (Ticks 1) (ap isDone (ticks-done s 1 (i .transfer .host)))
+
+-- the ticks of an event, by the first of them
+only-one : (s : State) (i : InRange s) (n : ℕ) → n ≡ 0 → done s (Ticks 1) ≡ singleTicks (suc n) s
+only-one s i n e = tick-done s i ∙ sym (one-tick s i) ∙ ap (λ (k : ℕ). singleTicks (suc k) s) (sym e)
+
+after-one : (s : State) (i : InRange s) (n k : ℕ) → n ≡ suc k → joined (done s (Ticks 1)) (singleTicks (suc k) ((done s (Ticks 1)) .state)) ≡ singleTicks (suc n) s
+unfolding singleTicks
+after-one s i n k e =
+    (λ v. joined (tick-done s i v) (singleTicks (suc k) ((tick-done s i v) .state)))
+    ∙ ap (λ (l : ℕ). joined (access s (Ticks 1)) (singleTicks l ((access s (Ticks 1)) .state))) (sym e)
+
 -- A of ticks is that of one
 a-ticks : (s : State) (n : ℕ) → afterA s (Ticks n) ≡ afterA s (Ticks 1)
 unfolding afterA linesAfter registersA transferA hostA counterA statusA errorA latchesA stackA identityA sequencerA givesUp selectionA notedA selectionLatchesA automaticAck latchAccess clrstcnt clrch rstfifo clears clearsLatch clearsError writes reads valueOf offered asked portWrite
@@ -134,48 +150,31 @@ module _ (s : State) (i : InRange s) (j : InBytes s) {m : List ℕ} (a : Acted) 
         many = λ k l. absurd (omega (arith, x .ticks, none, l));
       }
 
-  -- the first of several ticks
-  first-ready : (n : ℕ) → Acts s (Ticks (suc n)) m a → a .ends ≡ false → Ready m seen before0 before1 (min (a .ticks) 1) (a .value)
-  unfolding valueRead ticksOf
-  first-ready n x h =
-      let t : isDone (accessCode s (Ticks (suc n))) ≡ true = not-false (isDone (accessCode s (Ticks (suc n)))) (x .ends) h in
-      record {
-        state = s;
-        event = Ticks 1;
-        fits = omega arith;
-        done = ticks-done s 1 (i .transfer .host);
-        range = i;
-        bytes = j;
-        made = (rw t at (x .image)) ∙ ap imageOf (a-ticks s (suc n));
-        rst = p;
-        req = q;
-        mismatched = r;
-        simode0 = y;
-        simode1 = z;
-        ticks = omega (arith, x .ticks);
-        value = rw t at (x .value);
-      }
-
-  first-done : done s (Ticks 1) ≡ access s (Ticks 1)
-  first-done = access-done s (Ticks 1) (ap isDone (ticks-done s 1 (i .transfer .host)))
-
-  only-one : (n : ℕ) → n ≡ 0 → done s (Ticks 1) ≡ singleTicks (suc n) s
-  only-one n e = first-done ∙ sym (one-tick s i) ∙ ap (λ (k : ℕ). singleTicks (suc k) s) (sym e)
-
-  after-one : (n k : ℕ) → n ≡ suc k → joined (done s (Ticks 1)) (singleTicks (suc k) ((done s (Ticks 1)) .state)) ≡ singleTicks (suc n) s
-  unfolding singleTicks
-  after-one n k e =
-      (λ v. joined (first-done v) (singleTicks (suc k) ((first-done v) .state)))
-      ∙ ap (λ (l : ℕ). joined (access s (Ticks 1)) (singleTicks l ((access s (Ticks 1)) .state))) (sym e)
-
   ticks-onward : (n : ℕ) → EventFits (Ticks n) → Acts s (Ticks n) m a → a .ends ≡ false → Onward (ticksTaken n s) m seen before0 before1 (a .ticks) (a .value)
-  unfolding ticksTaken ticksOf
+  unfolding ticksTaken ticksOf valueRead
   ticks-onward zero f x h = acts-onward (Ticks 0) f refl x h
   ticks-onward (suc n) f x h =
+      let t : isDone (accessCode s (Ticks (suc n))) ≡ true = not-false (isDone (accessCode s (Ticks (suc n)))) (x .ends) h in
       record {
-        ready = first-ready n x h;
-        few = λ l. only-one n (omega (arith, x .ticks, l));
-        many = λ k l. after-one n k (omega (arith, x .ticks, l));
+        ready =
+            record {
+              state = s;
+              event = Ticks 1;
+              fits = omega arith;
+              done = ticks-done s 1 (i .transfer .host);
+              range = i;
+              bytes = j;
+              made = (rw t at (x .image)) ∙ ap imageOf (a-ticks s (suc n));
+              rst = p;
+              req = q;
+              mismatched = r;
+              simode0 = y;
+              simode1 = z;
+              ticks = omega (arith, x .ticks);
+              value = rw t at (x .value);
+            };
+        few = λ l. only-one s i n (omega (arith, x .ticks, l));
+        many = λ k l. after-one s i n k (omega (arith, x .ticks, l));
       }
 
   never-ended : (t : State) (code : Code) (value : ℕ) {x : Stepped} → Ends t code value m a → a .ends ≡ false → Onward x m seen before0 before1 (a .ticks) (a .value)
@@ -195,3 +194,62 @@ module _ (s : State) (i : InRange s) (j : InBytes s) {m : List ℕ} (a : Acted) 
   unfolding stepDecoded
   opens-onward (Well e) f x h = event-onward e f x h
   opens-onward Ill f x h = never-ended s Malformed 0 x h
+
+-- what B, C and D take up of it
+abbrev pub tick-ready : (s : State) (i : InRange s) (j : InBytes s) {m : List ℕ} (a : Acted) {seen : Seen} {before0 before1 : ℕ} → rstOf seen ≡ rstSeen s → reqOf seen ≡ reqSeen s → mismatchedOf seen ≡ mismatched s → simode0Of before0 ≡ s .registers .simode0 → simode1Of before1 ≡ s .registers .simode1 → Acts s (Ticks 1) m a → Ready m seen before0 before1 (a .ticks) (a .value)
+tick-ready s i j a p q r y z x =
+    let d = ticks-done s 1 (i .transfer .host) in
+    let t : isDone (accessCode s (Ticks 1)) ≡ true = ap isDone d in
+    record {
+      state = s;
+      event = Ticks 1;
+      fits = omega arith;
+      done = d;
+      range = i;
+      bytes = j;
+      made = rw t at (x .image);
+      rst = p;
+      req = q;
+      mismatched = r;
+      simode0 = y;
+      simode1 = z;
+      ticks = x .ticks;
+      value = rw t at (x .value);
+    }
+
+-- with its number of ticks in another form
+abbrev pub at-ticks : {m : List ℕ} {x : Seen} {before0 before1 ticks value n : ℕ} → Ready m x before0 before1 ticks value → n ≡ ticks → Ready m x before0 before1 n value
+at-ticks w e =
+    record {
+      state = w .state;
+      event = w .event;
+      fits = w .fits;
+      done = w .done;
+      range = w .range;
+      bytes = w .bytes;
+      made = w .made;
+      rst = w .rst;
+      req = w .req;
+      mismatched = w .mismatched;
+      simode0 = w .simode0;
+      simode1 = w .simode1;
+      ticks = e ∙ w .ticks;
+      value = w .value;
+    }
+
+-- the state that an event leaves
+pub record Left (s : State) : Type 0 where
+  pub range : InRange s
+  pub bytes : InBytes s
+  pub rests : AtRest s
+
+pub done-left : {m : List ℕ} {x : Seen} {before0 before1 ticks value : ℕ} (w : Ready m x before0 before1 ticks value) → Left ((done (w .state) (w .event)) .state)
+unfolding done
+done-left w =
+    let d = ap isDone (w .done) in
+    let b = after-b-fits (w .state) (w .event) (w .fits) d (w .range) in
+    record {
+      range = after-d (w .state) (w .event) b;
+      bytes = bytes-after-d (w .state) (w .event) (bytes-after-b (w .state) (w .event) (bytes-after-a (w .state) (w .event) (w .fits) (w .bytes)));
+      rests = done-rests (w .state) (w .event) b;
+    }

@@ -54,12 +54,12 @@ module _ {m : List ℕ} (g : IsImage m) {r : List ℕ} (h : r ≡ imageOf (raise
   raised-range : InRange (raisedBy s)
   raised-range =
       let i = g .range in
-      record { registers = i .registers; transfer = i .transfer; stack = i .stack; quiet = i .quiet; identity = i .identity }
+      record { registers = i .registers; transfer = i .transfer; stack = i .stack; quiet = i .quiet; identity = i .identity; sequencer = i .sequencer }
 
   raised-bytes : InBytes (raisedBy s)
   raised-bytes =
       let j = g .bytes in
-      record { lines = j .lines; registers = j .registers; transfer = j .transfer; stack = j .stack }
+      record { lines = j .lines; registers = j .registers; transfer = j .transfer; stack = j .stack; selid = j .selid }
 
   pub image-raised : IsImage r
   image-raised = image-is (raisedBy s) h raised-range raised-bytes
@@ -74,12 +74,12 @@ module _ {m : List ℕ} (g : IsImage m) {r : List ℕ} (h : r ≡ imageOf (raise
     fallen-range : InRange (fallenBy acks (raisedBy s))
     fallen-range =
         let i = g .range in
-        record { registers = i .registers; transfer = i .transfer; stack = i .stack; quiet = i .quiet; identity = i .identity }
+        record { registers = i .registers; transfer = i .transfer; stack = i .stack; quiet = i .quiet; identity = i .identity; sequencer = i .sequencer }
 
     fallen-bytes : InBytes (fallenBy acks (raisedBy s))
     fallen-bytes =
         let j = g .bytes in
-        record { lines = j .lines; registers = j .registers; transfer = j .transfer; stack = j .stack }
+        record { lines = j .lines; registers = j .registers; transfer = j .transfer; stack = j .stack; selid = j .selid }
 
     pub image-fallen : IsImage l
     image-fallen = image-is (fallenBy acks (raisedBy s)) fallen-is fallen-range fallen-bytes

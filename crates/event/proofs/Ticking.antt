@@ -1,9 +1,10 @@
 -- Ticks after the first: what some of them leave and report, and what more of them then do.
-use Prim.Native.Nat.{ℕ, zero, suc, _+_, _%_, _<_, _≤_}
+use Prim.Native.Nat.{ℕ, zero, suc, _+_, _-_, _%_, _<_, _≤_}
+use mathlib.Core.Bool.{Bool, true, false, cond}
 use mathlib.Core.Path.{_≡_, refl, ap, sym, subst, _∙_}
 use mathlib.Core.List.{List, [], _∷_, _++_, append-nil}
 use native.Mathlib.Omega.{arith}
-use native.Mathlib.Nat.{add-zero}
+use native.Mathlib.Nat.{add-zero, add-mod-mod}
 use lib.ListN.{length, length-append}
 use Rattle.rules.specs.State.{State}
 use Rattle.rules.specs.Answers.{Stepped}
@@ -25,7 +26,7 @@ use Rattle.fifos.specs.declared.sent.Sent.{Sent}
 use Rattle.fifos.proofs.Behind.{view-of, tidy-of}
 use Rattle.settling.specs.declared.Told.{Told}
 use Rattle.event.specs.declared.stepping.Outcome.{Outcome}
-use Rattle.event.specs.declared.passing.Walked.{Walked}
+use Rattle.event.specs.declared.passing.Stretch.{Stretch}
 use Rattle.event.specs.Outcomes.{Leaves}
 use Rattle.event.specs.Totals.{toldWith, Totals, Walks, Sums, toldTogether, summed}
 
@@ -38,6 +39,12 @@ one-tick t i =
     (λ k. joined (e k) (ended ((e k) .state) Done 0))
     ∙ (λ k. record { state = p .state; code = Done; value = 0; moves = add-zero (p .moves) k; acks = add-zero (p .acks) k; sent = append-nil (p .sent) k })
     ∙ sym e
+
+-- ticks that only count leave bytes where bytes are stored
+pub advanced-bytes : (k : ℕ) (s : State) → InBytes s → InBytes (advanced k s)
+unfolding advanced
+advanced-bytes k s j =
+    record { lines = j .lines; registers = j .registers; transfer = j .transfer; stack = j .stack; selid = j .selid }
 
 -- what is told, of another form of the same step
 pub totals-as : {x y : Stepped} {m : List ℕ} {t : Told} → x ≡ y → Totals x m t → Totals y m t
@@ -156,3 +163,46 @@ module _ {x y : Stepped} (k : ℕ) {m n : List ℕ} {o : Outcome} {t : Told} (l 
         acks = ap (λ (z : Outcome). z .acks) h ∙ g .acks;
         sent = ap (λ (z : Outcome). z .sent) h ∙ g .sent;
       }
+
+-- A ROUND THAT CHANGES NOTHING: 72 ticks that leave the same bytes and report nothing
+empty : (l : List ℕ) → length l ≡ 0 → l ≡ []
+empty [] e = refl
+empty (x ∷ l) e = absurd (omega arith)
+
+module _ (s : State) (r : AtRest s) (i : InRange s) (j : InBytes s) {m n : List ℕ} {t : Told} (q : Totals (singleTicks 72 s) n t) (e : m ≡ imageOf s) where
+  pub round-still : n ≡ m → t .moves ≡ 0 → t .acks ≡ 0 → t .sent .count ≡ 0 → singleTicks 72 s ≡ ended s Done 0
+  unfolding singleTicks ended
+  round-still same moves acks count =
+      let x = singleTicks 72 s in
+      let back : x .state ≡ s = sym (ticked-state s r i j 72 q) ∙ ap stateAt same ∙ state-is s e i j in
+      let sent : x .sent ≡ [] = empty (x .sent) (sym (ap (λ (y : Sent). y .count) (q .sent)) ∙ count) in
+      λ k.
+      record {
+        state = back k;
+        code = Done;
+        value = 0;
+        moves = (sym (q .moves) ∙ moves) k;
+        acks = (sym (q .acks) ∙ acks) k;
+        sent = sent k;
+      }
+
+-- after one full round, whole rounds more make no difference
+same-left : (x : ℕ) → (72 + x % 72) % 72 ≡ (72 + x) % 72
+same-left x = add-mod-mod 72 x 72
+
+module _ (s : State) {u : State} (back : u ≡ (singleTicks 72 s) .state) (n : ℕ) (h : 144 ≤ n) where
+  by-rounds : (k : ℕ) → singleTicks (72 + k) s ≡ joined (singleTicks 72 s) (singleTicks k u)
+  by-rounds k = ticks-split 72 k s ∙ ap (λ (v : State). joined (singleTicks 72 s) (singleTicks k v)) (sym back)
+
+  pub rounds-left : (whole : Bool) {left : ℕ} → (whole ≡ true → singleTicks 72 u ≡ ended u Done 0) → left ≡ cond whole ((n - 144) % 72) (n - 144) → singleTicks (72 + (72 + left)) s ≡ singleTicks n s
+  rounds-left false f e =
+      let g : 72 + (72 + (n - 144)) ≡ n = omega arith in
+      ap (λ (k : ℕ). singleTicks (72 + (72 + k)) s) e ∙ ap (λ (k : ℕ). singleTicks k s) g
+  rounds-left true {left} f e =
+      let g : 72 + (72 + (n - 144)) ≡ n = omega arith in
+      let w = f refl in
+      let a : singleTicks (72 + (n - 144) % 72) u ≡ singleTicks (72 + (n - 144)) u =
+      round (72 + (n - 144) % 72) 72 u (omega arith) w ∙ ap (λ (k : ℕ). singleTicks k u) (same-left (n - 144)) ∙ sym (round (72 + (n - 144)) 72 u (omega arith) w)
+      in
+      ap (λ (k : ℕ). singleTicks (72 + (72 + k)) s) e ∙ by-rounds (72 + (n - 144) % 72) ∙ ap (joined (singleTicks 72 s)) a
+      ∙ sym (by-rounds (72 + (n - 144))) ∙ ap (λ (k : ℕ). singleTicks k s) g

@@ -11,7 +11,7 @@ use Rattle.fifos.specs.declared.sent.Sent.{Sent}
 use Rattle.image.specs.Image.{imageOf}
 use Rattle.settling.specs.declared.Told.{Told}
 use Rattle.event.specs.declared.stepping.Outcome.{Outcome}
-use Rattle.event.specs.declared.passing.Walked.{Walked}
+use Rattle.event.specs.declared.passing.Stretch.{Stretch}
 
 abbrev pub toldWith : ℕ → ℕ → List ℕ → Told
 toldWith moves acks sent = record { moves = moves; acks = acks; sent = sentOf sent }
@@ -24,16 +24,16 @@ pub record Totals (x : Stepped) (m : List ℕ) (t : Told) : Type 0 where
   pub sent : t .sent ≡ sentOf (x .sent)
 
 -- some of the ticks are taken, at least one
-pub record Walks (s : State) (left : ℕ) (m : List ℕ) (w : Walked) : Type 0 where
+pub record Walks (s : State) (left : ℕ) (m : List ℕ) (w : Stretch) : Type 0 where
   pub taken : ℕ
   pub some : 0 < taken
   pub split : left ≡ taken + w .left
   pub totals : Totals (singleTicks taken s) m (w .told)
 
 -- what two parts report fits the fields together
-pub record Sums (moves acks : ℕ) (sent : Sent) (b : Told) : Type 0 where
-  pub moves : moves + b .moves ≤ 255
-  pub acks : acks + b .acks ≤ 255
+pub record Sums (made issued : ℕ) (sent : Sent) (b : Told) : Type 0 where
+  pub moves : made + b .moves ≤ 255
+  pub acks : issued + b .acks ≤ 255
   pub first : SentTidy sent
   pub second : SentTidy (b .sent)
   pub count : sent .count + b .sent .count ≤ 8

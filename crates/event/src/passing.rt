@@ -3,11 +3,13 @@ ghost use mathlib.Core.Path.{_≡_};
 ghost use mathlib.Core.Bool.{true, _&&_, cond};
 ghost use mathlib.Core.List.{[]};
 ghost use lib.Dec.{eqb};
+ghost use lib.ListN.{length};
 ghost use Prim.Native.Nat.{_%_, _<_, _≤_};
 ghost use Rattle.rules.specs.Rest.{AtRest};
 ghost use Rattle.rules.specs.Step.{access, singleTicks};
 ghost use Rattle.rules.specs.declared.records.Event.the-variants.{Ticks};
 ghost use Rattle.image.specs.Image.{IsImage, stateAt};
+ghost use Rattle.image.specs.Layout.{imageSize};
 ghost use Rattle.event.specs.Outcomes.{Leaves};
 ghost use Rattle.event.specs.Totals.{Totals, Walks, Sums, toldWith, toldTogether};
 use crate::finishing::finished;
@@ -27,7 +29,7 @@ use sequencer::skipping::distance;
 use settling::Told;
 
 // A part of some ticks: how many are left, and what those taken report.
-pub struct Walked {
+pub struct Stretch {
     pub left: u32,
     pub told: Told,
 }
@@ -82,7 +84,7 @@ pub fn together(a: Told, b: Told) -> Told
 }
 
 // The ticks up to the next that can change more than the counts, that one included; or all, where it is not reached.
-fn walk(m: &mut Image, left: u32) -> Walked
+fn walk(m: &mut Image, left: u32) -> Stretch
     requires { ⌜ IsImage (now m) ⌝ }
     requires { ⌜ AtRest (stateAt (now m)) ⌝ }
     requires { ⌜ 0 < left ⌝ }
@@ -92,14 +94,11 @@ fn walk(m: &mut Image, left: u32) -> Walked
     if left < d {
         advanced_in(m, left);
         let t = nothing();
-        return Walked {
-            left: 0,
-            told: t,
-        };
+        return Stretch { left: 0, told: t };
     }
     advanced_in(m, d - 1);
     let t = told(tick(m));
-    Walked {
+    Stretch {
         left: left - d,
         told: t,
     }
@@ -124,6 +123,8 @@ fn walked(m: &mut Image, n: u32) -> Told
 
 // Are the bytes of two images the same?
 fn is_same(a: &Image, b: &Image) -> bool
+    requires { ⌜ length (now a) ≡ imageSize ⌝ }
+    requires { ⌜ length (now b) ≡ imageSize ⌝ }
     ensures { λ r. ⌜ (r ≡ true → now (a .entry) ≡ now (b .entry)) ⌝ }
 {
     for i in 0..SIZE {

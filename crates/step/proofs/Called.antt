@@ -14,7 +14,7 @@ use Rattle.rules.specs.Step.{called, step, answer}
 use Rattle.rules.specs.declared.chip.Chip.{Chip}
 use Rattle.rules.specs.declared.codes.Code.{Code}
 use Rattle.rules.specs.declared.codes.Code.the-variants.{Malformed}
-use Rattle.rules.proofs.Ranges.{step-fits, step-bytes}
+use Rattle.rules.proofs.Ranges.{step-in-range, step-bytes}
 use Rattle.image.specs.Image.{imageOf, stateAt, IsImage}
 use Rattle.image.proofs.ReadBack.{read-back}
 use Rattle.chips.specs.HeadRuns.{Stored}
@@ -34,7 +34,7 @@ module _ (c : Chip) (t : Tidy c) {m : List ℕ} (k : Stored c m) (bytes : List �
   x = step (stateAt m) bytes
 
   range : InRange (x .state)
-  range = step-fits (stateAt m) bytes (k .sound .range) .state
+  range = step-in-range (stateAt m) bytes (k .sound .range)
 
   in-bytes : InBytes (x .state)
   in-bytes = step-bytes (stateAt m) bytes (k .sound .range) (k .sound .bytes) .state

@@ -64,9 +64,9 @@ loop-again c =
     let room : i < length bytes = omega (arith, enough (a .b) (start .pre .1 .0), test .loop-test .taken) in (
       omega arith,
       c .one-more .ensures
-      ∙ ap (λ (x : Sent). sentOf (sentView x ++ (getD bytes i 0 ∷ []))) (loop .inv .1)
-      ∙ ap (λ (x : List ℕ). sentOf (x ++ (getD bytes i 0 ∷ []))) (view-of (l ++ take i bytes))
-      ∙ ap sentOf (behind-next l bytes i room),
+          ∙ ap (λ (x : Sent). sentOf (sentView x ++ (getD bytes i 0 ∷ []))) (loop .inv .1)
+          ∙ ap (λ (x : List ℕ). sentOf (x ++ (getD bytes i 0 ∷ []))) (view-of (l ++ take i bytes))
+          ∙ ap sentOf (behind-next l bytes i room),
     )
 
 returns : tie.Need-returns Inv-loop μ-loop
