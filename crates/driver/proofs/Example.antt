@@ -26,12 +26,14 @@ use Rattle.driver.proofs.DemandThree.{demand-three, reset-ranged}
 abbrev exchange : ℕ → ℕ → ℕ → ℕ → Exchange
 exchange n event k reply = record { bytes = bytesOf n event; buffer = bytesOf k reply }
 
--- two probes, then the five records of a clearing: 16 bits, WRITE 1, SCSIEN, DMAEN
+-- two probes, then the seven records of a clearing: a pulse on RST, 16 bits, WRITE 1, SCSIEN, DMAEN
 abbrev pub setUp : List Exchange
 setUp =
     exchange 4 0x5C000000 16 0x00000001000000000000000000000000
     ∷ exchange 4 0x28000007 16 0x00000000000000000000000000000000
     ∷ exchange 4 0x21000000 16 0x00000000000000000000000000000000
+    ∷ exchange 4 0x20000001 16 0x00020000000000000000000000000000
+    ∷ exchange 4 0x20000000 16 0x00000000000000000000000000000000
     ∷ exchange 4 0x3200008A 16 0x00000000000000000000000000000000
     ∷ exchange 4 0x21000012 16 0x00000000000000000000000000000000
     ∷ exchange 4 0x23000000 16 0x00000000000000000000000000000000
@@ -58,14 +60,20 @@ firstRun =
     ∷ exchange 4 0xA0000006 16 0x00000000000004000000000000000000
     ∷ []
 
--- REQ falls, then the five records; four bytes are left in the SCSI FIFO and go
+-- the target lets go; a selection is begun, and after 96 ticks the chip waits for BSY. Then the seven records: the pulse on RST ends
+-- the selection; four bytes are left in the SCSI FIFO and go
 abbrev pub firstClearing : List Exchange
 firstClearing =
-    exchange 4 0xA0000004 16 0x00000000000004000000000000000000
-    ∷ exchange 4 0x21000000 16 0x00050000000004000000000000000000
-    ∷ exchange 4 0x3200008A 16 0x00050000000004000000000000000000
-    ∷ exchange 4 0x21000012 16 0x00050000000000000000000000000000
-    ∷ exchange 4 0x23000000 16 0x00050000000000000000000000000000
+    exchange 4 0xA0000000 16 0x00000000000004000000000000000000
+    ∷ exchange 4 0x25000072 16 0x00000000000004000000000000000000
+    ∷ exchange 4 0x20000040 16 0x00000000000004000000000000000000
+    ∷ exchange 4 0xC0000060 16 0x00050000088404000000000000000000
+    ∷ exchange 4 0x21000000 16 0x00050000088404000000000000000000
+    ∷ exchange 4 0x20000001 16 0x00020000000004000000000000000000
+    ∷ exchange 4 0x20000000 16 0x00000000000004000000000000000000
+    ∷ exchange 4 0x3200008A 16 0x00000000000004000000000000000000
+    ∷ exchange 4 0x21000012 16 0x00000000000000000000000000000000
+    ∷ exchange 4 0x23000000 16 0x00000000000000000000000000000000
     ∷ exchange 4 0x210000E0 16 0x00000000000000000000000000000000
     ∷ []
 
@@ -99,7 +107,7 @@ secondRun =
     ∷ exchange 4 0x2C0000FF 16 0x00050000014402000000000000000000
     ∷ []
 
--- SOFS 4, and from now on 8 bits
+-- SOFS 4, and from now on 8 bits; the sequencer is off as the run left it, and there is no pulse on RST
 abbrev pub secondClearing : List Exchange
 secondClearing =
     exchange 4 0x24000004 16 0x00000000000002000000000000000000
@@ -220,12 +228,12 @@ second-follows =
 pub first-clears : Clears firstClearing
 unfolding follows
 first-clears =
-    record { earlier = take 1 firstClearing; final = drop 1 firstClearing; eightbit = false; whole = refl; off = refl; sequence = refl }
+    record { earlier = take 4 firstClearing; final = drop 4 firstClearing; pulse = true; eightbit = false; whole = refl; off = refl; sequence = refl }
 
 pub second-clears : Clears secondClearing
 unfolding follows
 second-clears =
-    record { earlier = take 2 secondClearing; final = drop 2 secondClearing; eightbit = true; whole = refl; off = refl; sequence = refl }
+    record { earlier = take 2 secondClearing; final = drop 2 secondClearing; pulse = false; eightbit = true; whole = refl; off = refl; sequence = refl }
 
 pub counters-read : (counterOf (firstRound .reading) ≡ 2) × (counterOf (secondRound .reading) ≡ 2)
 unfolding follows
@@ -281,7 +289,20 @@ read-trace = trace-by-test powerReset (readSetUp ++ readRun) refl
 
 pub read-starts : Starts false (stateAfter powerReset readSetUp)
 unfolding follows
-read-starts = record { host = refl; scsi = refl; counter = refl; offset = refl; acko = refl; opened = refl; direction = refl }
+read-starts =
+    record {
+      host = refl;
+      scsi = refl;
+      counter = refl;
+      offset = refl;
+      acko = refl;
+      opened = refl;
+      direction = refl;
+      enselo = refl;
+      enseli = refl;
+      enrseli = refl;
+      idle = refl;
+    }
 
 pub read-comes : allOver (mayCome runAllows) readRun ≡ true
 unfolding follows

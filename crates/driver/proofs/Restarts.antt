@@ -1,27 +1,33 @@
 -- Clearings that a driver knows from its records: each ends at a start, and nothing is sent in it.
 use mathlib.Core.Path.{_≡_, refl, ap, ap₂, sym, _∙_}
-use mathlib.Core.Bool.{Bool, true}
+use mathlib.Core.Bool.{Bool, true, false, not, _||_}
 use mathlib.Core.List.{List, [], _∷_, _++_, append-assoc}
-use Prim.Native.Nat.{ℕ, _+_}
+use Prim.Native.Nat.{ℕ, _+_, _≤_}
 use lib.ListN.{length, drop}
+use borrow.Author.Tests.{not-true}
 use Rattle.rules.specs.State.{State}
+use Rattle.rules.specs.Events.{writes}
 use Rattle.rules.specs.Step.{after}
-use Rattle.runs.specs.Comes.{along}
+use Rattle.rules.specs.declared.map.Register.the-variants.{SCSISEQ}
+use Rattle.rules.proofs.Logic.{left-true, right-true}
+use Rattle.rules.proofs.StayIdle.{SequencerOff}
+use Rattle.runs.specs.Comes.{allCome, along}
 use Rattle.runs.specs.Run.{Starts, sentBy}
 use Rattle.runs.specs.Clearing.{staysOff, allClear, clearingOf}
 use Rattle.runs.specs.Rounds as records
 use Rattle.runs.proofs.Along.{after-append}
 use Rattle.runs.proofs.Clearing.{off-by, stays-clear}
-use Rattle.runs.proofs.Cut.{cut-and-read}
-use Rattle.runs.proofs.Rounds.{only-taken-is-sent}
-use Rattle.runs.proofs.Sequence.{clearing-works}
+use Rattle.runs.proofs.Cut.{all-come-more, cut-and-read}
+use Rattle.runs.proofs.Rounds.{only-taken-is-sent, idle-after-cut}
+use Rattle.runs.proofs.Sequence.{Works, clearing-works, short-clearing-works}
+use Rattle.runs.proofs.StaysIdle.{off-along}
 use Rattle.driver.specs.Exchanges.{Exchange, handed, handedOver, counterOf}
-use Rattle.driver.specs.Driving.{Round, exchangesOf, wholeRound, Chain, allRounds, taken, Drives, Clears, AllClear, Rounds, DrivesBlind}
+use Rattle.driver.specs.Driving.{Round, exchangesOf, wholeRound, Chain, allRounds, taken, Drives, lastRecords, mayPrecede, Clears, AllClear, Rounds, DrivesBlind}
 use Rattle.driver.specs.Calls.{Ranged, Trace}
 use Rattle.driver.proofs.Traces.{handed-append, trace-append, ranged-after, comes-along}
 use Rattle.driver.proofs.Rounds.{recordsIn, allRecordsIn, round-proceeds, round-after, rounds-match}
 
--- the five records lead to a start from any state
+-- the seven records lead to a start from any state
 pub starts-by-records : (s : State) (earlier final : List Exchange) (eightbit : Bool) → Ranged s → handedOver final ≡ clearingOf eightbit → Starts true (after s (handedOver (earlier ++ final)))
 starts-by-records s earlier final eightbit i e =
     let m = after s (handedOver earlier) in
@@ -40,7 +46,7 @@ module _ (s : State) (r : Round) (i : Ranged s) (p : records.Proceeds s (records
   read-ranged : Ranged read
   read-ranged = ranged-after s (handedOver (exchangesOf r)) i
 
-  cleared-records : handedOver (r .clearing) ≡ handedOver (c .earlier) ++ clearingOf (c .eightbit)
+  cleared-records : handedOver (r .clearing) ≡ handedOver (c .earlier) ++ lastRecords (c .pulse) (c .eightbit)
   cleared-records =
       ap handedOver (c .whole) ∙ handed-append (c .earlier) (c .final) ∙ ap (λ (l : List (List ℕ)). handedOver (c .earlier) ++ l) (c .sequence)
 
@@ -49,19 +55,44 @@ module _ (s : State) (r : Round) (i : Ranged s) (p : records.Proceeds s (records
       let u : Trace read (c .earlier ++ c .final) = rw (c .whole) at (trace-append s (exchangesOf r) (r .clearing) t .1) in
       trace-append read (c .earlier) (c .final) u .0
 
+  abbrev earlier : List (List ℕ)
+  earlier = handedOver (c .earlier)
+
+  -- where the clearing's last records find the chip
+  abbrev before : State
+  before = after read earlier
+
+  come-before : allCome (mayPrecede (c .pulse)) read earlier ≡ true
+  come-before = sym (comes-along (mayPrecede (c .pulse)) read (c .earlier) read-ranged in-clearing) ∙ c .off
+
+  -- the run leaves the sequencer off, and so do records that do not write 340h
+  still-off : allCome (mayPrecede false) read earlier ≡ true → SequencerOff before
+  still-off =
+      off-along (mayPrecede false) refl (λ e a. not-true (writes e SCSISEQ) (right-true (staysOff e) (not (writes e SCSISEQ)) a)) read earlier
+      (rw (reading-after s r) (idle-after-cut s (recordsIn r) p))
+
+  room-before : length (before .transfer .host) ≤ 128
+  room-before = ranged-after read earlier read-ranged .range .transfer .host
+
+  last-works : Works before (lastRecords (c .pulse) (c .eightbit))
+  last-works = go (c .pulse) come-before
+    where
+      go : (pulse : Bool) → allCome (mayPrecede pulse) read earlier ≡ true → Works before (lastRecords pulse (c .eightbit))
+      go true h = clearing-works before (c .eightbit) room-before
+      go false h = short-clearing-works before (c .eightbit) room-before (still-off h)
+
   pub round-starts : Starts true (after s (handedOver (wholeRound r)))
   round-starts =
-      rw (handed-append (exchangesOf r) (r .clearing), after-append s (handedOver (exchangesOf r)) (handedOver (r .clearing)), c .whole)
-      (starts-by-records read (c .earlier) (c .final) (c .eightbit) read-ranged (c .sequence))
+      rw (handed-append (exchangesOf r) (r .clearing), after-append s (handedOver (exchangesOf r)) (handedOver (r .clearing)), cleared-records, after-append read earlier (lastRecords (c .pulse) (c .eightbit)))
+      (last-works .starts)
 
   pub round-clears : allClear (records.afterReading s (recordsIn r)) (handedOver (r .clearing)) ≡ true
   round-clears =
       let q = cut-and-read s (recordsIn r) p in
       let off = off-by (records.afterReading s (recordsIn r)) (q .off) (q .moment .held .spioen) in
-      let come = sym (comes-along staysOff read (c .earlier) read-ranged in-clearing) ∙ c .off in
-      let w = clearing-works (after read (handedOver (c .earlier))) (c .eightbit) (ranged-after read (handedOver (c .earlier)) read-ranged .range .transfer .host) in
+      let come = all-come-more (mayPrecede (c .pulse)) staysOff (λ e a. left-true (staysOff e) (c .pulse || not (writes e SCSISEQ)) a) read earlier come-before in
       rw (cleared-records, ← reading-after s r)
-      (stays-clear read (handedOver (c .earlier)) (clearingOf (c .eightbit)) (rw (reading-after s r) off) come (w .allowed))
+      (stays-clear read earlier (lastRecords (c .pulse) (c .eightbit)) (rw (reading-after s r) off) come (last-works .allowed))
 
 -- any number of such rounds
 pub record Restarts (whole : List ℕ) (first : ℕ) (s : State) (rounds : List Round) : Type 0 where

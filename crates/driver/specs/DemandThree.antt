@@ -44,7 +44,7 @@ Beginning whole rounds last = takenSoFar rounds last ≡ take (length (takenSoFa
 
 -- exchanges from a state, whatever came earlier and comes later
 pub record DemandThree (s : State) (xs : List Exchange) : Type 0 where
-  -- the five records of a clearing lead to a start from any chip
+  -- the seven records of a clearing lead to a start from any chip, whatever its sequencer does
   pub start :
       (earlier final later : List Exchange) (eightbit : Bool) →
       xs ≡ (earlier ++ final) ++ later → handedOver final ≡ clearingOf eightbit → Starts true (stateAfter s (earlier ++ final))

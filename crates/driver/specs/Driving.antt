@@ -1,17 +1,19 @@
 -- The rules of a run, its cuts and its rounds over what a driver has in its hands. Document 01, "A run and its cuts".
 use Prim.Native.Nat.{ℕ, _+_, _≤_, _<_}
 use mathlib.Core.Path.{_≡_}
-use mathlib.Core.Bool.{Bool, true}
+use mathlib.Core.Bool.{Bool, true, not, _&&_, _||_, cond}
 use mathlib.Core.List.{List, [], _∷_, _++_}
 use lib.ListN.{length, take, drop}
 use Rattle.rules.specs.State.{State}
 use Rattle.rules.specs.Records.{decode}
+use Rattle.rules.specs.Events.{writes}
 use Rattle.rules.specs.Step.{after}
-use Rattle.rules.specs.declared.map.Register.the-variants.{STCNT0, STCNT1, STCNT2}
+use Rattle.rules.specs.declared.map.Register.the-variants.{SCSISEQ, STCNT0, STCNT1, STCNT2}
+use Rattle.rules.specs.declared.records.Event.{Event}
 use Rattle.runs.specs.Comes.{says}
 use Rattle.runs.specs.Run.{Starts, runAllows}
 use Rattle.runs.specs.Cut.{isCut, calm}
-use Rattle.runs.specs.Clearing.{staysOff, clearingOf}
+use Rattle.runs.specs.Clearing.{staysOff, clearingOf, shortClearingOf}
 use Rattle.driver.specs.Exchanges.{Exchange, handed, handedOver, codeOf, takenOf, acceptedOf, offeredOf, mayCome, allOver, over, registerRead, counterOf}
 
 -- "its port writes offer its data in order from the round's first byte, and a refused one is offered again before any later byte"
@@ -88,14 +90,25 @@ pub record Drives (whole : List ℕ) (s : State) (rounds : List Round) (last : L
 abbrev pub takenSoFar : List Round → List Exchange → List ℕ
 takenSoFar rounds last = taken rounds ++ over takenOf last
 
--- A CLEARING BY RECORDS ALONE: records that set neither SCSIEN nor SPIOEN, then the five that end at a start from any chip
+-- the last records of a clearing: the seven with a pulse on RST, which end at a start from any chip; or the five without it, which end
+-- at one where the sequencer is off
+abbrev pub lastRecords : Bool → Bool → List (List ℕ)
+lastRecords pulse eightbit = cond pulse (clearingOf eightbit) (shortClearingOf eightbit)
+
+-- what may come before them: events that leave SCSIEN and SPIOEN 0, and without the pulse none that writes 340h, so that the sequencer
+-- is off as the run left it
+abbrev pub mayPrecede : Bool → Event → Bool
+mayPrecede pulse e = staysOff e && (pulse || not (writes e SCSISEQ))
+
+-- A CLEARING BY RECORDS ALONE
 pub record Clears (xs : List Exchange) : Type 0 where
   pub earlier : List Exchange
   pub final : List Exchange
+  pub pulse : Bool
   pub eightbit : Bool
   pub whole : xs ≡ earlier ++ final
-  pub off : allOver (mayCome staysOff) earlier ≡ true
-  pub sequence : handedOver final ≡ clearingOf eightbit
+  pub off : allOver (mayCome (mayPrecede pulse)) earlier ≡ true
+  pub sequence : handedOver final ≡ lastRecords pulse eightbit
 
 abbrev pub AllClear : List Round → Type 0
 AllClear [] = Unit {0}
