@@ -4,7 +4,7 @@ use mathlib.Core.Bool.{Bool, true, false, cond, _&&_}
 use mathlib.Core.Path.{_≡_, refl, ap, sym, subst, _∙_}
 use mathlib.Core.List.{List, [], _∷_, _++_, append-nil}
 use native.Mathlib.Omega.{arith}
-use native.Mathlib.Nat.{add-zero, zero-add}
+use native.Mathlib.Nat.{add-zero}
 use lib.Dec.{eqb, ltb}
 use lib.ListN.{length, length-append}
 use borrow.Author.Tests.{eqb-true, ltb-true}
@@ -22,7 +22,7 @@ use Rattle.rules.proofs.OneTick.{plain, tick-plain, advanced-fits}
 use Rattle.rules.proofs.Ranges.{single-in-range, single-bytes}
 use Rattle.rules.proofs.Reports.{Few, few-ticks, StepReports}
 use Rattle.rules.proofs.Still.{single-rests}
-use Rattle.rules.proofs.TickByTick.{steady, steady-more, ticks-split, round}
+use Rattle.rules.proofs.TickByTick.{ticks-code, steady, steady-more, joined-none, ticks-split, round}
 use Rattle.image.specs.Image.{imageOf, stateAt, IsImage}
 use Rattle.effects.proofs.ImageOnward.{state-is, image-is}
 use Rattle.fifos.specs.Fifos.{sentOf, sentView, SentTidy}
@@ -163,12 +163,6 @@ nothing-told {x} {t = t} q code value none =
       sent = sent k;
     }
 
--- ticks are done, and read nothing
-single-done : (n : ℕ) (s : State) → ((singleTicks n s) .code ≡ Done) × ((singleTicks n s) .value ≡ 0)
-unfolding singleTicks ended
-single-done zero s = (refl, refl)
-single-done (suc n) s = (refl, refl)
-
 -- the copy led here, and nothing was reported
 module _ {copy m : List ℕ} {k : ℕ} {t : Told} (led : Leads copy k m t) (none : (eqb (t .moves) 0 && eqb (t .acks) 0 && eqb (t .sent .count) 0) ≡ true) where
   here : stateAt m ≡ (singleTicks k (stateAt copy)) .state
@@ -179,7 +173,7 @@ module _ {copy m : List ℕ} {k : ℕ} {t : Told} (led : Leads copy k m t) (none
       record {
         image = led .image;
         rests = led .rests;
-        same = nothing-told (led .totals) (single-done k (stateAt copy) .0) (single-done k (stateAt copy) .1) none ∙ ap (λ (s : State). ended s Done 0) (sym here);
+        same = nothing-told (led .totals) (ticks-code k (stateAt copy) .0) (ticks-code k (stateAt copy) .1) none ∙ ap (λ (s : State). ended s Done 0) (sym here);
       }
 
 -- A ROUND THAT CHANGES NOTHING: 72 ticks that leave the same bytes and report nothing
@@ -189,20 +183,6 @@ led-round {copy} {m} i led e none same left =
     (λ j. singleTicks (sym e j) (stateAt (same j))) ∙ (led-nowhere led none) .same
     in
     sym (round left 72 (stateAt m) (omega arith) still)
-
-none-before : (t s : State) (n : ℕ) → joined (ended t Done 0) (singleTicks n s) ≡ singleTicks n s
-unfolding ended
-none-before t s n =
-    let r = singleTicks n s in
-    λ k.
-    record {
-      state = r .state;
-      code = sym (single-done n s .0) k;
-      value = sym (single-done n s .1) k;
-      moves = zero-add (r .moves) k;
-      acks = zero-add (r .acks) k;
-      sent = r .sent;
-    }
 
 -- a number of ticks since the copy that is no more than a round says that there is a copy
 not-late-as : (a b c : ℕ) (t : Bool) → ltb a 72 ≡ t → c ≡ cond t b unreached → c ≤ 72 → (a < 72) × (c ≡ b)
@@ -248,5 +228,5 @@ module _ {m copy : List ℕ} (g : IsImage m) (r : AtRest (stateAt m)) {left : �
           rests = c .rests;
           same =
               ap (λ (x : ℕ). singleTicks x u) f ∙ ticks-split d (k + 1) u ∙ (λ x. joined (c .same x) (singleTicks (k + 1) (c .same x .state)))
-              ∙ none-before (stateAt m) (stateAt m) (k + 1) ∙ steady-more k 1 s r (g .range) near ∙ ap (singleTicks 1) (sym counted-state);
+              ∙ joined-none (stateAt m) (stateAt m) (k + 1) ∙ steady-more k 1 s r (g .range) near ∙ ap (singleTicks 1) (sym counted-state);
         }

@@ -2,9 +2,9 @@
 use Prim.Native.Nat.{ℕ, zero, suc, _+_, _-_, _<_, _≤_, min}
 use mathlib.Core.Bool.{Bool, true, false, _&&_, cond, false≢true}
 use mathlib.Core.Path.{_≡_, refl, ap, sym, subst, _∙_}
-use mathlib.Core.List.{List, [], _++_, append-nil, append-assoc}
+use mathlib.Core.List.{List, [], _++_, append-nil}
 use native.Mathlib.Omega.{arith}
-use native.Mathlib.Nat.{add-zero, add-assoc}
+use native.Mathlib.Nat.{add-zero}
 use lib.Dec.{eqb}
 use lib.ListN.{length, length-append}
 use Rattle.rules.specs.State.{State}
@@ -18,6 +18,7 @@ use Rattle.rules.specs.Registers.{simode0Of, simode1Of}
 use Rattle.rules.specs.Seen.{rstSeen, reqSeen, mismatched}
 use Rattle.rules.proofs.OneTick.{tick-plain}
 use Rattle.rules.proofs.Reports.{StepReports}
+use Rattle.rules.proofs.TickByTick.{joined-assoc}
 use Rattle.image.specs.Image.{imageOf, stateAt, IsImage}
 use Rattle.effects.proofs.ImageOnward.{state-is, image-is}
 use Rattle.fifos.specs.Fifos.{sentOf}
@@ -64,7 +65,7 @@ begin {y} copy {ticks = ticks} o w e f far =
       marked = λ h. absurd (omega (arith, far, h));
     }
 
--- parts, one after the other
+-- a part with nothing after it
 none-after : (x : Stepped) (t : State) → x .code ≡ Done → x .value ≡ 0 → x .state ≡ t → joined x (ended t Done 0) ≡ x
 unfolding ended
 none-after x t c v e =
@@ -76,18 +77,6 @@ none-after x t c v e =
       moves = add-zero (x .moves) k;
       acks = add-zero (x .acks) k;
       sent = append-nil (x .sent) k;
-    }
-
-parts : (a b c : Stepped) → joined (joined a b) c ≡ joined a (joined b c)
-parts a b c =
-    λ k.
-    record {
-      state = c .state;
-      code = Done;
-      value = 0;
-      moves = add-assoc (a .moves) (b .moves) (c .moves) k;
-      acks = add-assoc (a .acks) (b .acks) (c .acks) k;
-      sent = append-assoc (a .sent) (b .sent) (c .sent) k;
     }
 
 -- what is done so far reports no more than the whole
@@ -137,7 +126,7 @@ unfolding singleTicks ended
 whole-next v zero l h w e f g = absurd (omega (arith, h))
 whole-next {y} {x} {d} {s} v (suc k) l h w e f g =
     let all : joined (joined x d) (singleTicks l (d .state)) ≡ y =
-    parts x d (singleTicks l (d .state)) ∙ ap (λ (z : Stepped). joined x (joined z (singleTicks l (z .state)))) (sym g) ∙ ap (joined x) (sym f)
+    sym (joined-assoc x d (singleTicks l (d .state))) ∙ ap (λ (z : Stepped). joined x (joined z (singleTicks l (z .state)))) (sym g) ∙ ap (joined x) (sym f)
     ∙ ap (λ (z : State). joined x (singleTicks (suc k) z)) (sym e) ∙ w .many k refl
     in
     record {
@@ -217,6 +206,6 @@ module _ {y : Stepped} {m copy : List ℕ} {seen : Seen} {before0 before1 one va
           whole = whole-next (stateAt a) left (k .left) (g .less h) (w .whole) (so-state first (w .past) turn ∙ sym turn-state) (g .some h) (sym c);
           ticks = λ _. (f .0, f .1, ap (λ (s : Stepped). s .code) (c ∙ tick-plain (stateAt a) (i .range)), ap (λ (s : Stepped). s .value) (c ∙ tick-plain (stateAt a) (i .range)));
           marked = λ s.
-          let y = g .marked h s in
-          record { image = y .image; rests = y .rests; same = y .same ∙ one-tick (stateAt a) (i .range) ∙ sym c };
+              let y = g .marked h s in
+              record { image = y .image; rests = y .rests; same = y .same ∙ one-tick (stateAt a) (i .range) ∙ sym c };
         }

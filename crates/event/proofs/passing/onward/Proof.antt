@@ -69,8 +69,8 @@ returns-2 c =
       some = λ h. counted-some (start .pre .0) (start .pre .1 .0) (lapped .rounds .ensures) (d - 1) near (counted .advanced-in2 .ensures) (lap .left - d) (omega (arith, far, c .before .before .before .before .if1 .left));
       less = λ h. omega (arith, far, lapped .rounds .ensures .less);
       marked = λ h l.
-      let n = not-late (lap .since) (lap .since + d) _ (c .before .later .ensures) l in
-      counted-marked (start .pre .0) (start .pre .1 .0) (lapped .rounds .ensures) (d - 1) near (counted .advanced-in2 .ensures) _ (n .0) (omega (arith, n .1, far));
+          let n = not-late (lap .since) (lap .since + d) _ (c .before .later .ensures) l in
+          counted-marked (start .pre .0) (start .pre .1 .0) (lapped .rounds .ensures) (d - 1) near (counted .advanced-in2 .ensures) _ (n .0) (omega (arith, n .1, far));
     }
 
 pub onward-spec : {M : Type 1} → statement M
