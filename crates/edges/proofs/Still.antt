@@ -20,7 +20,8 @@ use Rattle.edges.specs.declared.last.Seen.{Seen}
 use Rattle.edges.specs.From.{rstRisesFrom, reqRisesFrom, synchronousReqFrom, quietFrom, edgesFrom, appliedFrom}
 use Rattle.edges.specs.ParityKept.{keptFrom}
 use Rattle.edges.proofs.ParityKept.{kept-none}
-use Rattle.edges.specs.Since.{seenOf, rstOf, reqOf, mismatchedOf}
+use Rattle.edges.specs.Since.{seenOf, lastOf, fiveInOrder, beyondSince, rstOf, reqOf, mismatchedOf}
+use Rattle.edges.proofs.InOrder.{since, beyond-since}
 use Rattle.edges.proofs.Placed.{quiet-placed}
 
 -- what is read off the five bytes of an array is what is seen there
@@ -117,36 +118,31 @@ module _ (s : State) where
   still-beyond : false ≡ (edgesFrom rst req s 0) .beyond
   still-beyond = ap (λ (g : Edges). g .beyond) (sym still)
 
-module _ (m : List ℕ) (g : IsImage m) (x : Seen) (e : seenOf m ≡ x) {ticks : ℕ} (t : ticks ≡ 0) where
+-- since the bytes of the array itself
+module _ (m : List ℕ) where
   abbrev s : State
   s = stateAt m
 
-  rst-is : rstSeen s ≡ rstOf x
-  rst-is = sym (rst-of m) ∙ ap rstOf e
+  abbrev x : Seen
+  x = seenOf m
 
-  req-is : reqSeen s ≡ reqOf x
-  req-is = sym (req-of m) ∙ ap reqOf e
-
-  mismatched-is : mismatched s ≡ mismatchedOf x
-  mismatched-is = sym (mismatched-of m) ∙ ap mismatchedOf e
-
-  pub seen-beyond : false ≡ (edgesFrom (rstOf x) (reqOf x) s ticks) .beyond
-  seen-beyond = still-beyond s ∙ (λ i. (edgesFrom (rst-is i) (req-is i) s (sym t i)) .beyond)
-
-  applied-is : {q : ℕ} → q ≡ quietFrom (rstSeen s) s 0 → imageOf (withQuiet q s) ≡ imageOf (appliedFrom (edgesFrom (rstOf x) (reqOf x) s ticks) (mismatchedOf x) s)
-  applied-is h =
-      ap (λ (n : ℕ). imageOf (withQuiet n s)) h ∙ ap imageOf (sym (still-applied s))
-      ∙ (λ i. imageOf (appliedFrom (edgesFrom (rst-is i) (req-is i) s (sym t i)) (mismatched-is i) s))
+  pub still-since : false ≡ beyondSince x s
+  still-since = still-beyond s ∙ (λ i. (edgesFrom (sym (rst-of m) i) (sym (req-of m) i) s 0) .beyond) ∙ beyond-since x 0 s
 
   -- REQ is as it was, so that no parity is kept
   same-kept : s ≡ keptFrom (reqOf x) s
-  same-kept = sym (kept-none (reqOf x) s (ap (λ (q : Bool). reqRisesFrom q s) (sym req-is) ∙ req-still s))
+  same-kept = sym (kept-none (reqOf x) s (ap (λ (q : Bool). reqRisesFrom q s) (req-of m) ∙ req-still s))
 
-  kept-same : imageOf (appliedFrom (edgesFrom (rstOf x) (reqOf x) s ticks) (mismatchedOf x) s) ≡ imageOf (appliedFrom (edgesFrom (rstOf x) (reqOf x) s ticks) (mismatchedOf x) (keptFrom (reqOf x) s))
-  kept-same = ap (λ (n : State). imageOf (appliedFrom (edgesFrom (rstOf x) (reqOf x) s ticks) (mismatchedOf x) n)) same-kept
+  quiet-since : {q : ℕ} → q ≡ quietFrom (rstSeen s) s 0 → imageOf (withQuiet q s) ≡ imageOf (fiveInOrder (lastOf x) 0 s)
+  quiet-since h =
+      ap (λ (n : ℕ). imageOf (withQuiet n s)) h ∙ ap imageOf (sym (still-applied s))
+      ∙ (λ i. imageOf (appliedFrom (edgesFrom (sym (rst-of m) i) (sym (req-of m) i) s 0) (sym (mismatched-of m) i) s))
+      ∙ ap (λ (n : State). imageOf (appliedFrom (edgesFrom (rstOf x) (reqOf x) s 0) (mismatchedOf x) n)) same-kept
+      ∙ ap imageOf (since x 0 s)
 
-  pub seen-quieted : busyB false s ≡ true → set m quietPlace 0 ≡ imageOf (appliedFrom (edgesFrom (rstOf x) (reqOf x) s ticks) (mismatchedOf x) (keptFrom (reqOf x) s))
-  seen-quieted b = quiet-placed m 0 s (g .packed) ∙ applied-is (quiet-zeroed s b) ∙ kept-same
+  module _ (g : IsImage m) where
+    pub seen-quieted : busyB false s ≡ true → set m quietPlace 0 ≡ imageOf (fiveInOrder (lastOf x) 0 s)
+    seen-quieted b = quiet-placed m 0 s (g .packed) ∙ quiet-since (quiet-zeroed s b)
 
-  pub seen-unchanged : busyB false s ≡ false → m ≡ imageOf (appliedFrom (edgesFrom (rstOf x) (reqOf x) s ticks) (mismatchedOf x) (keptFrom (reqOf x) s))
-  seen-unchanged b = g .packed ∙ applied-is (quiet-left s b (omega (arith, g .range .quiet))) ∙ kept-same
+    pub seen-unchanged : busyB false s ≡ false → m ≡ imageOf (fiveInOrder (lastOf x) 0 s)
+    seen-unchanged b = g .packed ∙ quiet-since (quiet-left s b (omega (arith, g .range .quiet)))

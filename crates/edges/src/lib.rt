@@ -77,12 +77,17 @@ fn applied_in(m: &mut Image, g: Edges, was: Before)
     after::freed_in(m, g.free);
 }
 
-// The rare edges: all are found, then applied.
-fn all_in(m: &mut Image, was: Before, ticks: u32) -> bool
+// The rare edges: all are found, then applied. Only here is what was seen put together, so that the frequent way stores none of it.
+fn all_in(m: &mut Image, rst: bool, req: bool, mismatched: bool, ticks: u32) -> bool
     requires { ⌜ IsImage (now m) ⌝ }
-    ensures { λ b. ⌜ b ≡ (edgesFrom (was .rst) (was .req) (stateAt (now (m .entry))) ticks) .beyond ⌝ }
-    ensures { λ _. ⌜ now (m .exit) ≡ imageOf (appliedFrom (edgesFrom (was .rst) (was .req) (stateAt (now (m .entry))) ticks) (was .mismatched) (stateAt (now (m .entry)))) ⌝ }
+    ensures { λ b. ⌜ b ≡ (edgesFrom rst req (stateAt (now (m .entry))) ticks) .beyond ⌝ }
+    ensures { λ _. ⌜ now (m .exit) ≡ imageOf (appliedFrom (edgesFrom rst req (stateAt (now (m .entry))) ticks) mismatched (stateAt (now (m .entry)))) ⌝ }
 {
+    let was = Before {
+        rst: rst,
+        req: req,
+        mismatched: mismatched,
+    };
     let g = edges_of(m, was, ticks);
     applied_in(m, g, was);
     g.beyond
@@ -97,14 +102,14 @@ fn edges_in(m: &mut Image, was: Before, bad: bool, ticks: u32) -> bool
     ensures { λ _. ⌜ now (m .exit) ≡ imageOf (appliedFrom (edgesFrom (was .rst) (was .req) (stateAt (now (m .entry))) ticks) (was .mismatched) (stateAt (now (m .entry)))) ⌝ }
 {
     if found::rst_rises(m, was.rst) {
-        return all_in(m, was, ticks);
+        return all_in(m, was.rst, was.req, was.mismatched, ticks);
     }
     let quiet = found::quiet_after(m, false, ticks);
     if (8 <= quiet) & !(8 <= m[QUIET]) {
-        return all_in(m, was, ticks);
+        return all_in(m, was.rst, was.req, was.mismatched, ticks);
     }
     if bad {
-        return all_in(m, was, ticks);
+        return all_in(m, was.rst, was.req, was.mismatched, ticks);
     }
     m[QUIET] = quiet;
     single::phase_in(m, was.mismatched);

@@ -1,4 +1,4 @@
-// B since the bytes that were seen: where none of them changed and no tick came, only the quiet ticks can change.
+// B since the bytes that were seen, in its parts: where none of them changed and no tick came, only the quiet ticks can change.
 ghost use mathlib.Core.Path.{_≡_};
 ghost use mathlib.Core.Bool.{_&&_};
 ghost use lib.Dec.{eqb};
@@ -51,7 +51,7 @@ fn before_of(x: Seen) -> Before
 }
 
 // The lines come first: in a line event it is they that changed.
-fn is_same(m: &Image, x: Seen) -> bool
+pub fn is_same(m: &Image, x: Seen) -> bool
     ensures { λ b. ⌜ b ≡ (eqb (getD (now (m .entry)) controlPlace 0) (x .control) && eqb (getD (now (m .entry)) scsisigPlace 0) (x .sig) && eqb (getD (now (m .entry)) upperPlace 0) (x .upper) && eqb (getD (now (m .entry)) scsiseqPlace 0) (x .seq) && eqb (getD (now (m .entry)) sequencerPlace 0) (x .sequencer)) ⌝ }
 {
     if m[LINES_CONTROL] == x.control {
@@ -64,21 +64,14 @@ fn is_same(m: &Image, x: Seen) -> bool
     }
 }
 
-// The five steps on an image; whether a REQ went beyond the limit.
-pub fn edges_since(m: &mut Image, x: Seen, ticks: u32) -> bool
+// The five steps where what is seen is as it was and no tick came: BSY or SEL seen stops the quiet ticks, and nothing else changes.
+pub fn still_in(m: &mut Image)
     requires { ⌜ IsImage (now m) ⌝ }
-    ensures { λ b. ⌜ b ≡ beyondSince x (stateAt (now (m .entry))) ⌝ }
-    ensures { λ _. ⌜ now (m .exit) ≡ imageOf (fiveInOrder (lastOf x) ticks (stateAt (now (m .entry)))) ⌝ }
+    ensures { λ _. ⌜ now (m .exit) ≡ imageOf (fiveInOrder (lastOf (seenOf (now (m .entry)))) 0 (stateAt (now (m .entry)))) ⌝ }
 {
-    if is_same(m, x) & (ticks == 0) {
-        if busy(m, false) {
-            m[QUIET] = 0;
-        }
-        return false;
+    if busy(m, false) {
+        m[QUIET] = 0;
     }
-    let was = before_of(x);
-    let bad = kept_in(m, was.req);
-    edges_in(m, was, bad, ticks)
 }
 
 // The four steps before the sequencer: where a mismatch is taken to have been seen, no phase changes.

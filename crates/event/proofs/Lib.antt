@@ -6,3 +6,4 @@ pub mod RecordTells
 pub mod ThroughAll
 pub mod ThroughB
 pub mod ThroughD
+pub mod Turns

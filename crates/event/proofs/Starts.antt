@@ -1,5 +1,5 @@
 -- From what A left: the answer is ready, or B, C and D are to come.
-use Prim.Native.Nat.{ℕ, zero, suc, _<_, min}
+use Prim.Native.Nat.{ℕ, zero, suc, _<_, _≤_, min}
 use native.Mathlib.Omega.{arith}
 use mathlib.Core.Path.{_≡_, refl, ap, sym, _∙_}
 use mathlib.Core.Bool.{Bool, true, false, not}
@@ -24,6 +24,7 @@ use Rattle.rules.proofs.Logic.{never}
 use Rattle.rules.specs.Rest.{AtRest}
 use Rattle.rules.proofs.Ranges.{bytes-after-a, after-b-fits, bytes-after-b, after-d, bytes-after-d}
 use Rattle.rules.proofs.Still.{ticks-done, done-rests}
+use Rattle.rules.proofs.OneTick.{tick-plain}
 use Rattle.event.proofs.Ticking.{one-tick}
 use Rattle.effects.proofs.DoneCode.{code-done}
 use Rattle.fifos.specs.Fifos.{sentOf}
@@ -104,6 +105,7 @@ pub record Onward (y : Stepped) (m : List ℕ) (x : Seen) (before0 before1 ticks
   pub ready : Ready m x before0 before1 (min ticks 1) value
   pub few : ticks < 2 → done (ready .state) (ready .event) ≡ y
   pub many : (k : ℕ) → ticks ≡ suc (suc k) → joined (done (ready .state) (ready .event)) (singleTicks (suc k) ((done (ready .state) (ready .event)) .state)) ≡ y
+  pub plain : 2 ≤ ticks → (value ≡ 0) × ((done (ready .state) (ready .event)) .code ≡ Done) × ((done (ready .state) (ready .event)) .value ≡ 0)
 
 -- a tick by itself
 pub tick-done : (s : State) → InRange s → done s (Ticks 1) ≡ access s (Ticks 1)
@@ -148,6 +150,7 @@ module _ (s : State) (i : InRange s) (j : InBytes s) {m : List ℕ} (a : Acted) 
             };
         few = λ l. access-done s e t;
         many = λ k l. absurd (omega (arith, x .ticks, none, l));
+        plain = λ l. absurd (omega (arith, x .ticks, none, l));
       }
 
   ticks-onward : (n : ℕ) → EventFits (Ticks n) → Acts s (Ticks n) m a → a .ends ≡ false → Onward (ticksTaken n s) m seen before0 before1 (a .ticks) (a .value)
@@ -175,6 +178,7 @@ module _ (s : State) (i : InRange s) (j : InBytes s) {m : List ℕ} (a : Acted) 
             };
         few = λ l. only-one s i n (omega (arith, x .ticks, l));
         many = λ k l. after-one s i n k (omega (arith, x .ticks, l));
+        plain = λ l. (rw t at (x .value), ap (λ (z : Stepped). z .code) (tick-done s i ∙ tick-plain s i), ap (λ (z : Stepped). z .value) (tick-done s i ∙ tick-plain s i));
       }
 
   never-ended : (t : State) (code : Code) (value : ℕ) {x : Stepped} → Ends t code value m a → a .ends ≡ false → Onward x m seen before0 before1 (a .ticks) (a .value)
@@ -195,9 +199,17 @@ module _ (s : State) (i : InRange s) (j : InBytes s) {m : List ℕ} (a : Acted) 
   opens-onward (Well e) f x h = event-onward e f x h
   opens-onward Ill f x h = never-ended s Malformed 0 x h
 
--- what B, C and D take up of it
-abbrev pub tick-ready : (s : State) (i : InRange s) (j : InBytes s) {m : List ℕ} (a : Acted) {seen : Seen} {before0 before1 : ℕ} → rstOf seen ≡ rstSeen s → reqOf seen ≡ reqSeen s → mismatchedOf seen ≡ mismatched s → simode0Of before0 ≡ s .registers .simode0 → simode1Of before1 ≡ s .registers .simode1 → Acts s (Ticks 1) m a → Ready m seen before0 before1 (a .ticks) (a .value)
-tick-ready s i j a p q r y z x =
+-- what B, C and D take up of a tick
+pub tick-counts : ticksOf (Ticks 1) ≡ 1
+unfolding ticksOf
+tick-counts = refl
+
+pub tick-reads : (s : State) → valueRead s (Ticks 1) ≡ 0
+unfolding valueRead
+tick-reads s = refl
+
+abbrev pub tick-ready : (s : State) (i : InRange s) (j : InBytes s) {m : List ℕ} (a : Acted) {seen : Seen} {before0 before1 one value : ℕ} → rstOf seen ≡ rstSeen s → reqOf seen ≡ reqSeen s → mismatchedOf seen ≡ mismatched s → simode0Of before0 ≡ s .registers .simode0 → simode1Of before1 ≡ s .registers .simode1 → Acts s (Ticks 1) m a → one ≡ 1 → value ≡ 0 → Ready m seen before0 before1 one value
+tick-ready s i j a p q r y z x e f =
     let d = ticks-done s 1 (i .transfer .host) in
     let t : isDone (accessCode s (Ticks 1)) ≡ true = ap isDone d in
     record {
@@ -213,8 +225,8 @@ tick-ready s i j a p q r y z x =
       mismatched = r;
       simode0 = y;
       simode1 = z;
-      ticks = x .ticks;
-      value = rw t at (x .value);
+      ticks = e ∙ sym tick-counts;
+      value = f ∙ sym (tick-reads s);
     }
 
 -- with its number of ticks in another form

@@ -1,11 +1,15 @@
 -- Ticks after the first: what some of them leave and report, and what more of them then do.
 use Prim.Native.Nat.{ℕ, zero, suc, _+_, _-_, _%_, _<_, _≤_}
-use mathlib.Core.Bool.{Bool, true, false, cond}
+use mathlib.Core.Bool.{Bool, true, false, cond, _&&_}
 use mathlib.Core.Path.{_≡_, refl, ap, sym, subst, _∙_}
 use mathlib.Core.List.{List, [], _∷_, _++_, append-nil}
 use native.Mathlib.Omega.{arith}
-use native.Mathlib.Nat.{add-zero, add-mod-mod}
+use native.Mathlib.Nat.{add-zero}
+use lib.Dec.{eqb, ltb}
 use lib.ListN.{length, length-append}
+use borrow.Author.Tests.{eqb-true, ltb-true}
+use Rattle.rules.specs.Ticks.{unreached}
+use Rattle.rules.proofs.Logic.{left-true, right-true}
 use Rattle.rules.specs.State.{State}
 use Rattle.rules.specs.Answers.{Stepped}
 use Rattle.rules.specs.Ranges.{InRange, InBytes}
@@ -14,11 +18,11 @@ use Rattle.rules.specs.Step.{ended, access, joined, singleTicks}
 use Rattle.rules.specs.Ticks.{advanced, distance}
 use Rattle.rules.specs.declared.codes.Code.the-variants.{Done}
 use Rattle.rules.specs.declared.records.Event.the-variants.{Ticks}
-use Rattle.rules.proofs.OneTick.{plain, tick-plain}
+use Rattle.rules.proofs.OneTick.{plain, tick-plain, advanced-fits}
 use Rattle.rules.proofs.Ranges.{single-in-range, single-bytes}
 use Rattle.rules.proofs.Reports.{Few, few-ticks, StepReports}
 use Rattle.rules.proofs.Still.{single-rests}
-use Rattle.rules.proofs.TickByTick.{steady, steady-more, ticks-split, round}
+use Rattle.rules.proofs.TickByTick.{ticks-code, steady, steady-more, joined-none, ticks-split, round}
 use Rattle.image.specs.Image.{imageOf, stateAt, IsImage}
 use Rattle.effects.proofs.ImageOnward.{state-is, image-is}
 use Rattle.fifos.specs.Fifos.{sentOf, sentView, SentTidy}
@@ -26,9 +30,9 @@ use Rattle.fifos.specs.declared.sent.Sent.{Sent}
 use Rattle.fifos.proofs.Behind.{view-of, tidy-of}
 use Rattle.settling.specs.declared.Told.{Told}
 use Rattle.event.specs.declared.stepping.Outcome.{Outcome}
-use Rattle.event.specs.declared.passing.Stretch.{Stretch}
+use Rattle.event.specs.declared.passing.Lap.{Lap}
 use Rattle.event.specs.Outcomes.{Leaves}
-use Rattle.event.specs.Totals.{toldWith, Totals, Walks, Sums, toldTogether, summed}
+use Rattle.event.specs.Totals.{toldWith, Totals, Sums, toldTogether, Leads, Marked, Rounds}
 
 -- one tick among ticks is an event of one tick
 pub one-tick : (t : State) → InRange t → singleTicks 1 t ≡ access t (Ticks 1)
@@ -136,73 +140,93 @@ module _ (s : State) (r : AtRest s) (i : InRange s) (j : InBytes s) where
       pub more-totals : {z : Told} → z ≡ toldTogether t w → Totals (singleTicks (k + l) s) n z
       more-totals h = totals-as whole (totals-both p then h)
 
--- the first tick, and those after it
-module _ {x y : Stepped} (k : ℕ) {m n : List ℕ} {o : Outcome} {t : Told} (l : Leaves x m o) (f : InRange (x .state)) (b : InBytes (x .state)) (q : Totals (singleTicks k (stateAt m)) n t) (e : joined x (singleTicks k (x .state)) ≡ y) where
-  first : Totals x m (record { moves = o .moves; acks = o .acks; sent = o .sent })
-  first = totals-of refl l
-
-  rest : Totals (singleTicks k (x .state)) n t
-  rest = totals-as (ap (singleTicks k) (state-is (x .state) (l .image) f b)) q
-
-  pub after-sums : StepReports y → Sums (o .moves) (o .acks) (o .sent) t
-  after-sums c =
-      let d : StepReports (joined x (singleTicks k (x .state))) = subst StepReports (sym e) c in
-      sums-fit first rest (omega (arith, d .moves)) (omega (arith, d .acks)) (d .sent)
-
-  together : Totals y n (toldTogether (record { moves = o .moves; acks = o .acks; sent = o .sent }) t)
-  together = totals-as e (totals-both first rest refl)
-
-  pub after-leaves : {r : Outcome} → r ≡ summed (o .moves) (o .acks) (o .sent) t → Leaves y n r
-  after-leaves h =
-      let g = together in
-      record {
-        image = g .image;
-        code = ap (λ (z : Outcome). z .code) h ∙ ap (λ (z : Stepped). z .code) e;
-        value = ap (λ (z : Outcome). z .value) h ∙ ap (λ (z : Stepped). z .value) e;
-        moves = ap (λ (z : Outcome). z .moves) h ∙ g .moves;
-        acks = ap (λ (z : Outcome). z .acks) h ∙ g .acks;
-        sent = ap (λ (z : Outcome). z .sent) h ∙ g .sent;
-      }
-
--- A ROUND THAT CHANGES NOTHING: 72 ticks that leave the same bytes and report nothing
 empty : (l : List ℕ) → length l ≡ 0 → l ≡ []
 empty [] e = refl
 empty (x ∷ l) e = absurd (omega arith)
 
-module _ (s : State) (r : AtRest s) (i : InRange s) (j : InBytes s) {m n : List ℕ} {t : Told} (q : Totals (singleTicks 72 s) n t) (e : m ≡ imageOf s) where
-  pub round-still : n ≡ m → t .moves ≡ 0 → t .acks ≡ 0 → t .sent .count ≡ 0 → singleTicks 72 s ≡ ended s Done 0
-  unfolding singleTicks ended
-  round-still same moves acks count =
-      let x = singleTicks 72 s in
-      let back : x .state ≡ s = sym (ticked-state s r i j 72 q) ∙ ap stateAt same ∙ state-is s e i j in
-      let sent : x .sent ≡ [] = empty (x .sent) (sym (ap (λ (y : Sent). y .count) (q .sent)) ∙ count) in
-      λ k.
+-- ticks that report nothing leave a state and no more
+nothing-told : {x : Stepped} {m : List ℕ} {t : Told} → Totals x m t → x .code ≡ Done → x .value ≡ 0 → (eqb (t .moves) 0 && eqb (t .acks) 0 && eqb (t .sent .count) 0) ≡ true → x ≡ ended (x .state) Done 0
+unfolding ended
+nothing-told {x} {t = t} q code value none =
+    let both = left-true (eqb (t .moves) 0 && eqb (t .acks) 0) _ none in
+    let moves = eqb-true (t .moves) 0 (left-true (eqb (t .moves) 0) _ both) in
+    let acks = eqb-true (t .acks) 0 (right-true (eqb (t .moves) 0) _ both) in
+    let count = eqb-true (t .sent .count) 0 (right-true (eqb (t .moves) 0 && eqb (t .acks) 0) _ none) in
+    let sent : x .sent ≡ [] = empty (x .sent) (sym (ap (λ (y : Sent). y .count) (q .sent)) ∙ count) in
+    λ k.
+    record {
+      state = x .state;
+      code = code k;
+      value = value k;
+      moves = (sym (q .moves) ∙ moves) k;
+      acks = (sym (q .acks) ∙ acks) k;
+      sent = sent k;
+    }
+
+-- the copy led here, and nothing was reported
+module _ {copy m : List ℕ} {k : ℕ} {t : Told} (led : Leads copy k m t) (none : (eqb (t .moves) 0 && eqb (t .acks) 0 && eqb (t .sent .count) 0) ≡ true) where
+  here : stateAt m ≡ (singleTicks k (stateAt copy)) .state
+  here = ticked-state (stateAt copy) (led .rests) (led .image .range) (led .image .bytes) k (led .totals)
+
+  pub led-nowhere : Marked copy k (ended (stateAt m) Done 0)
+  led-nowhere =
       record {
-        state = back k;
-        code = Done;
-        value = 0;
-        moves = (sym (q .moves) ∙ moves) k;
-        acks = (sym (q .acks) ∙ acks) k;
-        sent = sent k;
+        image = led .image;
+        rests = led .rests;
+        same = nothing-told (led .totals) (ticks-code k (stateAt copy) .0) (ticks-code k (stateAt copy) .1) none ∙ ap (λ (s : State). ended s Done 0) (sym here);
       }
 
--- after one full round, whole rounds more make no difference
-same-left : (x : ℕ) → (72 + x % 72) % 72 ≡ (72 + x) % 72
-same-left x = add-mod-mod 72 x 72
+-- A ROUND THAT CHANGES NOTHING: 72 ticks that leave the same bytes and report nothing
+pub led-round : {copy m : List ℕ} {k : ℕ} {t : Told} → IsImage m → Leads copy k m t → k ≡ 72 → (eqb (t .moves) 0 && eqb (t .acks) 0 && eqb (t .sent .count) 0) ≡ true → m ≡ copy → (left : ℕ) → singleTicks (left % 72) (stateAt m) ≡ singleTicks left (stateAt m)
+led-round {copy} {m} i led e none same left =
+    let still : singleTicks 72 (stateAt m) ≡ ended (stateAt m) Done 0 =
+    (λ j. singleTicks (sym e j) (stateAt (same j))) ∙ (led-nowhere led none) .same
+    in
+    sym (round left 72 (stateAt m) (omega arith) still)
 
-module _ (s : State) {u : State} (back : u ≡ (singleTicks 72 s) .state) (n : ℕ) (h : 144 ≤ n) where
-  by-rounds : (k : ℕ) → singleTicks (72 + k) s ≡ joined (singleTicks 72 s) (singleTicks k u)
-  by-rounds k = ticks-split 72 k s ∙ ap (λ (v : State). joined (singleTicks 72 s) (singleTicks k v)) (sym back)
+-- a number of ticks since the copy that is no more than a round says that there is a copy
+not-late-as : (a b c : ℕ) (t : Bool) → ltb a 72 ≡ t → c ≡ cond t b unreached → c ≤ 72 → (a < 72) × (c ≡ b)
+not-late-as a b c true p e h = (ltb-true a 72 p, e)
+not-late-as a b c false p e h = absurd (omega (arith, e, h))
 
-  pub rounds-left : (whole : Bool) {left : ℕ} → (whole ≡ true → singleTicks 72 u ≡ ended u Done 0) → left ≡ cond whole ((n - 144) % 72) (n - 144) → singleTicks (72 + (72 + left)) s ≡ singleTicks n s
-  rounds-left false f e =
-      let g : 72 + (72 + (n - 144)) ≡ n = omega arith in
-      ap (λ (k : ℕ). singleTicks (72 + (72 + k)) s) e ∙ ap (λ (k : ℕ). singleTicks k s) g
-  rounds-left true {left} f e =
-      let g : 72 + (72 + (n - 144)) ≡ n = omega arith in
-      let w = f refl in
-      let a : singleTicks (72 + (n - 144) % 72) u ≡ singleTicks (72 + (n - 144)) u =
-      round (72 + (n - 144) % 72) 72 u (omega arith) w ∙ ap (λ (k : ℕ). singleTicks k u) (same-left (n - 144)) ∙ sym (round (72 + (n - 144)) 72 u (omega arith) w)
-      in
-      ap (λ (k : ℕ). singleTicks (72 + (72 + k)) s) e ∙ by-rounds (72 + (n - 144) % 72) ∙ ap (joined (singleTicks 72 s)) a
-      ∙ sym (by-rounds (72 + (n - 144))) ∙ ap (λ (k : ℕ). singleTicks k s) g
+pub not-late : (a b c : ℕ) → c ≡ cond (ltb a 72) b unreached → c ≤ 72 → (a < 72) × (c ≡ b)
+not-late a b c e h = not-late-as a b c (ltb a 72) refl e h
+
+-- UP TO THE NEXT TICK THAT DOES MORE THAN COUNT
+module _ {m copy : List ℕ} (g : IsImage m) (r : AtRest (stateAt m)) {left : ℕ} {lap : Lap} (w : Rounds m left copy lap) where
+  abbrev s : State
+  s = stateAt m
+
+  module _ (k : ℕ) {n : List ℕ} (near : k < distance s) (e : n ≡ imageOf (advanced k s)) where
+    counted-fits : InRange (advanced k s)
+    counted-fits = advanced-fits s r k (g .range) near
+
+    pub counted-image : IsImage n
+    counted-image = image-is (advanced k s) e counted-fits (advanced-bytes k s (g .bytes))
+
+    counted-state : stateAt n ≡ advanced k s
+    counted-state = state-is (advanced k s) e counted-fits (advanced-bytes k s (g .bytes))
+
+    -- all of them only count
+    pub counted-all : k ≡ lap .left → singleTicks left s ≡ ended (stateAt n) Done 0
+    counted-all same =
+        sym (w .same) ∙ ap (λ (x : ℕ). singleTicks x s) (sym same) ∙ steady k s r (g .range) near ∙ ap (λ (x : State). ended x Done 0) (sym counted-state)
+
+    -- one is next that does more
+    pub counted-some : (l : ℕ) → lap .left ≡ k + suc l → singleTicks left s ≡ singleTicks (suc l) (stateAt n)
+    counted-some l same =
+        sym (w .same) ∙ ap (λ (x : ℕ). singleTicks x s) same ∙ steady-more k (suc l) s r (g .range) near ∙ ap (singleTicks (suc l)) (sym counted-state)
+
+    pub counted-marked : (a : ℕ) → lap .since < 72 → a ≡ lap .since + (k + 1) → Marked copy a (singleTicks 1 (stateAt n))
+    unfolding ended
+    counted-marked a h f =
+        let c = w .marked h in
+        let u = stateAt copy in
+        let d = lap .since in
+        record {
+          image = c .image;
+          rests = c .rests;
+          same =
+              ap (λ (x : ℕ). singleTicks x u) f ∙ ticks-split d (k + 1) u ∙ (λ x. joined (c .same x) (singleTicks (k + 1) (c .same x .state)))
+              ∙ joined-none (stateAt m) (stateAt m) (k + 1) ∙ steady-more k 1 s r (g .range) near ∙ ap (singleTicks 1) (sym counted-state);
+        }

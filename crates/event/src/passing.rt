@@ -1,63 +1,40 @@
 // Ticks after the first: from a chip at rest those between two changes only count, so that they are not walked one by one.
 ghost use mathlib.Core.Path.{_≡_};
 ghost use mathlib.Core.Bool.{true, _&&_, cond};
-ghost use mathlib.Core.List.{[]};
-ghost use lib.Dec.{eqb};
+ghost use lib.Dec.{eqb, ltb};
 ghost use lib.ListN.{length};
-ghost use Prim.Native.Nat.{_%_, _<_, _≤_};
+ghost use Prim.Native.Nat.{_+_, _≤_};
 ghost use Rattle.rules.specs.Rest.{AtRest};
-ghost use Rattle.rules.specs.Step.{access, singleTicks};
-ghost use Rattle.rules.specs.declared.records.Event.the-variants.{Ticks};
+ghost use Rattle.rules.specs.Ticks.{unreached};
 ghost use Rattle.image.specs.Image.{IsImage, stateAt};
 ghost use Rattle.image.specs.Layout.{imageSize};
-ghost use Rattle.event.specs.Outcomes.{Leaves};
-ghost use Rattle.event.specs.Totals.{Totals, Walks, Sums, toldWith, toldTogether};
-use crate::finishing::finished;
+ghost use Rattle.event.specs.Totals.{Sums, toldTogether, Marked, Leads, Rounds, Goes};
 use crate::stepping::Outcome;
-use edges::since::seen_in;
-use effects::driving::ticked;
 use fifos::sent::joined;
-use fifos::sent::none;
 use image::layout::Image;
-use image::layout::SIMODE0;
-use image::layout::SIMODE1;
 use image::layout::SIZE;
-use image::sequencer::phase;
-use image::sequencer::phase_number;
 use sequencer::skipping::advanced_in;
 use sequencer::skipping::distance;
 use settling::Told;
 
-// A part of some ticks: how many are left, and what those taken report.
-pub struct Stretch {
+// More ticks than an event has: no copy of the chip is kept.
+pub const UNREACHED: u32 = 16777216;
+
+// The ticks that are left, and how many came since the chip was copied.
+pub struct Lap {
     pub left: u32,
-    pub told: Told,
+    pub since: u32,
 }
 
-// One tick, as an event.
-fn tick(m: &mut Image) -> Outcome
-    requires { ⌜ IsImage (now m) ⌝ }
-    ensures { λ r. ⌜ Leaves (access (stateAt (now (m .entry))) (Ticks 1)) (now (m .exit)) r ⌝ }
-{
-    let seen = seen_in(m);
-    let before0 = m[SIMODE0];
-    let before1 = m[SIMODE1];
-    let a = ticked(m, 1);
-    finished(m, seen, before0, before1, a.ticks, a.value)
+// Whether a tick that does more than count is next; the ticks after it, and those since the copy, it included.
+pub struct Ahead {
+    pub more: bool,
+    pub left: u32,
+    pub since: u32,
 }
 
-fn nothing() -> Told
-    ensures { λ t. ⌜ t ≡ toldWith 0 0 [] ⌝ }
-{
-    let sent = none();
-    Told {
-        moves: 0,
-        acks: 0,
-        sent: sent,
-    }
-}
-
-fn told(o: Outcome) -> Told
+// What an event reports.
+pub fn told(o: Outcome) -> Told
     ensures { λ t. ⌜ t ≡ record { moves = o .moves; acks = o .acks; sent = o .sent } ⌝ }
 {
     let sent = o.sent;
@@ -83,44 +60,6 @@ pub fn together(a: Told, b: Told) -> Told
     }
 }
 
-// The ticks up to the next that can change more than the counts, that one included; or all, where it is not reached.
-fn walk(m: &mut Image, left: u32) -> Stretch
-    requires { ⌜ IsImage (now m) ⌝ }
-    requires { ⌜ AtRest (stateAt (now m)) ⌝ }
-    requires { ⌜ 0 < left ⌝ }
-    ensures { λ w. ⌜ Walks (stateAt (now (m .entry))) left (now (m .exit)) w ⌝ }
-{
-    let d = distance(m);
-    if left < d {
-        advanced_in(m, left);
-        let t = nothing();
-        return Stretch { left: 0, told: t };
-    }
-    advanced_in(m, d - 1);
-    let t = told(tick(m));
-    Stretch {
-        left: left - d,
-        told: t,
-    }
-}
-
-// All of them, from change to change.
-fn walked(m: &mut Image, n: u32) -> Told
-    requires { ⌜ IsImage (now m) ⌝ }
-    requires { ⌜ AtRest (stateAt (now m)) ⌝ }
-    ensures { λ t. ⌜ Totals (singleTicks n (stateAt (now (m .entry)))) (now (m .exit)) t ⌝ }
-{
-    let mut left = n;
-    let mut t = nothing();
-    while 0 < left {
-        let w = walk(m, left);
-        let more = w.told;
-        t = together(t, more);
-        left = w.left;
-    }
-    t
-}
-
 // Are the bytes of two images the same?
 fn is_same(a: &Image, b: &Image) -> bool
     requires { ⌜ length (now a) ≡ imageSize ⌝ }
@@ -143,38 +82,84 @@ fn is_nothing(t: Told) -> bool
     (t.moves == 0) & (t.acks == 0) & (sent.count == 0)
 }
 
-// Where a round changed nothing, whole rounds are left out.
-fn rest_after(n: u32, whole: bool) -> u32
-    ensures { λ r. ⌜ r ≡ cond whole (n % 72) n ⌝ }
-{
-    if whole { n % 72 } else { n }
-}
-
-// "a data bit above OID held on a free bus, a round lost every 72 ticks; after one full lost round the rest is taken modulo 72"
-fn rounds(m: &mut Image, n: u32) -> Told
+// Another copy of the chip.
+fn copied(m: &Image, spare: &mut Image, left: u32) -> Lap
     requires { ⌜ IsImage (now m) ⌝ }
     requires { ⌜ AtRest (stateAt (now m)) ⌝ }
-    requires { ⌜ 144 ≤ n ⌝ }
-    ensures { λ t. ⌜ Totals (singleTicks n (stateAt (now (m .entry)))) (now (m .exit)) t ⌝ }
+    ensures { λ r. ⌜ Rounds (now (m .entry)) left (now (spare .exit)) r ⌝ }
 {
-    let first = walked(m, 72);
-    let copy = *m;
-    let second = walked(m, 72);
-    let left = rest_after(n - 144, is_same(m, &copy) & is_nothing(second));
-    let third = walked(m, left);
-    together(first, together(second, third))
+    *spare = *m;
+    Lap {
+        left: left,
+        since: 0,
+    }
 }
 
-// Only where arbitration goes on can rounds be lost without end.
-pub fn passed(m: &mut Image, n: u32) -> Told
+// "a data bit above OID held on a free bus, a round lost every 72 ticks; after one full lost round the rest is taken modulo 72":
+// where the bytes are those of 72 ticks ago and nothing was reported.
+fn rounds(m: &Image, spare: &mut Image, t: Told, since: u32, left: u32) -> Lap
     requires { ⌜ IsImage (now m) ⌝ }
     requires { ⌜ AtRest (stateAt (now m)) ⌝ }
-    ensures { λ t. ⌜ Totals (singleTicks n (stateAt (now (m .entry)))) (now (m .exit)) t ⌝ }
+    requires { ⌜ (since ≤ 72 → Leads (now spare) since (now m) t) ⌝ }
+    ensures { λ r. ⌜ Rounds (now (m .entry)) left (now (spare .exit)) r ⌝ }
 {
-    let p = phase_number(phase(m));
-    if ((p == 1) | (p == 2)) & (216 <= n) {
-        rounds(m, n)
-    } else {
-        walked(m, n)
+    if left < 144 {
+        return Lap {
+            left: left,
+            since: UNREACHED,
+        };
+    }
+    if 72 < since {
+        return copied(m, spare, left);
+    }
+    if !is_nothing(t) {
+        return copied(m, spare, left);
+    }
+    if since < 72 {
+        return Lap {
+            left: left,
+            since: since,
+        };
+    }
+    if is_same(m, spare) {
+        return Lap {
+            left: left % 72,
+            since: UNREACHED,
+        };
+    }
+    copied(m, spare, left)
+}
+
+// The ticks since the copy, where there is one.
+fn later(since: u32, ticks: u32) -> u32
+    requires { ⌜ ticks ≤ unreached ⌝ }
+    ensures { λ n. ⌜ n ≡ cond (ltb since 72) (since + ticks) unreached ⌝ }
+{
+    if since < 72 { since + ticks } else { UNREACHED }
+}
+
+// Up to the next tick that can change more than the counts; or all, where it is not reached.
+pub fn onward(m: &mut Image, spare: &mut Image, t: Told, since: u32, left: u32) -> Ahead
+    requires { ⌜ IsImage (now m) ⌝ }
+    requires { ⌜ AtRest (stateAt (now m)) ⌝ }
+    requires { ⌜ (since ≤ 72 → Leads (now spare) since (now m) t) ⌝ }
+    ensures { λ n. ⌜ Goes (stateAt (now (m .entry))) left (now (m .exit)) (now (spare .exit)) n ⌝ }
+{
+    let r = rounds(m, spare, t, since, left);
+    let d = distance(m);
+    if r.left < d {
+        advanced_in(m, r.left);
+        return Ahead {
+            more: false,
+            left: 0,
+            since: UNREACHED,
+        };
+    }
+    advanced_in(m, d - 1);
+    let passed = later(r.since, d);
+    Ahead {
+        more: true,
+        left: r.left - d,
+        since: passed,
     }
 }

@@ -1,15 +1,19 @@
 // One event on an image: A, then, if it was not refused, B, C and D, then the answer.
 ghost use mathlib.Core.Path.{_≡_};
+ghost use mathlib.Core.Bool.{false, cond};
 ghost use Rattle.rules.specs.Step.{step};
 ghost use Rattle.image.specs.Image.{IsImage, stateAt};
 ghost use Prim.Native.Nat.{min};
 ghost use Rattle.event.specs.Outcomes.{Leaves, Gives, endedAs};
-ghost use Rattle.event.specs.Totals.{Sums, summed};
+ghost use Rattle.event.specs.Totals.{Sums, summed, toldOf};
 use crate::finishing::finished;
 use crate::opening::opened;
-use crate::passing::passed;
+use crate::passing::UNREACHED;
+use crate::passing::onward;
 use crate::passing::together;
+use crate::passing::told;
 use edges::since::seen_in;
+use effects::driving::ticked;
 use fifos::sent::Sent;
 use image::layout::Image;
 use image::layout::SIMODE0;
@@ -55,7 +59,7 @@ fn at_most_one(ticks: u32) -> u32
 }
 
 // "its moves, ACKs and bytes sent are those of its ticks together"
-fn after_first(first: Outcome, rest: Told) -> Outcome
+fn summed(first: Outcome, rest: Told) -> Outcome
     requires { ⌜ Sums (first .moves) (first .acks) (first .sent) rest ⌝ }
     ensures { λ r. ⌜ r ≡ summed (first .moves) (first .acks) (first .sent) rest ⌝ }
 {
@@ -78,33 +82,62 @@ fn after_first(first: Outcome, rest: Told) -> Outcome
     }
 }
 
-// A record on an image; ticks after the first come one by one, or as many as only count at once.
-pub fn outcome_of(m: &mut Image, bytes: &[u8]) -> Outcome
+// The first part of an event by itself, or with those before it.
+fn added(first: bool, before: Outcome, next: Outcome) -> Outcome
+    requires { ⌜ (first ≡ false → Sums (before .moves) (before .acks) (before .sent) (toldOf next)) ⌝ }
+    ensures { λ r. ⌜ r ≡ cond first next (summed (before .moves) (before .acks) (before .sent) (toldOf next)) ⌝ }
+{
+    if first {
+        next
+    } else {
+        summed(before, told(next))
+    }
+}
+
+// A record on an image: A, then B, C and D of the event, or of each of its ticks that does more than count. spare is room for a copy.
+pub fn outcome_of(m: &mut Image, bytes: &[u8], spare: &mut Image) -> Outcome
     requires { ⌜ IsImage (now m) ⌝ }
     ensures { λ r. ⌜ Leaves (step (stateAt (now (m .entry))) (now (bytes .entry))) (now (m .exit)) r ⌝ }
 {
-    let seen = seen_in(m);
-    let before0 = m[SIMODE0];
-    let before1 = m[SIMODE1];
+    let mut seen = seen_in(m);
+    let mut before0 = m[SIMODE0];
+    let mut before1 = m[SIMODE1];
     let a = opened(m, bytes);
     if a.ends {
         let code = a.code;
         return ended(code, a.value);
     }
-    let first = finished(m, seen, before0, before1, at_most_one(a.ticks), a.value);
-    if a.ticks < 2 {
-        return first;
+    let one = at_most_one(a.ticks);
+    let mut left = a.ticks - one;
+    let mut since = UNREACHED;
+    let mut first = true;
+    let mut o = ended(Code::Done, 0);
+    loop {
+        let p = finished(m, seen, before0, before1, one, a.value);
+        if first & (left == 0) {
+            return p;
+        }
+        o = added(first, o, p);
+        let n = onward(m, spare, told(p), since, left);
+        if !n.more {
+            return o;
+        }
+        left = n.left;
+        since = n.since;
+        first = false;
+        seen = seen_in(m);
+        before0 = m[SIMODE0];
+        before1 = m[SIMODE1];
+        ticked(m, 1);
     }
-    let rest = passed(m, a.ticks - 1);
-    after_first(first, rest)
 }
 
 // A record on an image, and its answer.
-pub fn stepped(m: &mut Image, bytes: &[u8]) -> Reply
+pub fn stepped(m: &mut Image, bytes: &[u8], spare: &mut Image) -> Reply
     requires { ⌜ IsImage (now m) ⌝ }
     ensures { λ r. ⌜ Gives (step (stateAt (now (m .entry))) (now (bytes .entry))) (now (m .exit)) r ⌝ }
 {
-    let o = outcome_of(m, bytes);
+    let o = outcome_of(m, bytes, spare);
     let code = o.code;
     let sent = o.sent.bytes;
     let answer = answer_of(m, code, o.value, o.moves, o.acks, sent);

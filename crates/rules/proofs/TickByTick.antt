@@ -172,13 +172,13 @@ steady (suc k) s r i h =
     ∙ ap (λ (n : State). ended n Done 0) (advanced-more s r i far k)
 
 -- ticks report code 0 and no value
-ticks-code : (n : ℕ) (s : State) → ((singleTicks n s) .code ≡ Done) × ((singleTicks n s) .value ≡ 0)
+pub ticks-code : (n : ℕ) (s : State) → ((singleTicks n s) .code ≡ Done) × ((singleTicks n s) .value ≡ 0)
 unfolding singleTicks ended
 ticks-code zero s = (refl, refl)
 ticks-code (suc n) s = (refl, refl)
 
 -- after nothing, what comes is all there is
-joined-none : (t s : State) (n : ℕ) → joined (ended t Done 0) (singleTicks n s) ≡ singleTicks n s
+pub joined-none : (t s : State) (n : ℕ) → joined (ended t Done 0) (singleTicks n s) ≡ singleTicks n s
 unfolding ended
 joined-none t s n =
     let r = singleTicks n s in
@@ -192,7 +192,7 @@ joined-none t s n =
       sent = r .sent;
     }
 
-joined-assoc : (a b c : Stepped) → joined a (joined b c) ≡ joined (joined a b) c
+pub joined-assoc : (a b c : Stepped) → joined a (joined b c) ≡ joined (joined a b) c
 joined-assoc a b c =
     λ j.
     record {

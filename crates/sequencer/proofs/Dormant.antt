@@ -16,7 +16,7 @@ use Rattle.image.specs.Image.{stateAt, phaseOf}
 use Rattle.image.specs.Layout.{scsiseqPlace, sequencerPlace}
 use Rattle.sequencer.specs.Since.{dormant}
 
-off : (b : Bool) → not b ≡ true → b ≡ false
+pub off : (b : Bool) → not b ≡ true → b ≡ false
 off true h = sym h
 off false h = refl
 

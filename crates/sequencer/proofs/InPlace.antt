@@ -1,13 +1,14 @@
 -- What the sequencer changes, stored into an image.
 use Prim.Native.Nat.{ℕ}
 use mathlib.Core.Path.{_≡_, refl, ap, sym, subst, _∙_}
+use mathlib.Core.Bool.{Bool, true, false, cond}
 use mathlib.Core.List.{List}
 use lib.ListN.{getD, set}
 use Rattle.rules.specs.Registers.{scsiseqOf, scsiseqByte, scsisigOf}
 use Rattle.rules.specs.Changed.{withSequencer}
 use Rattle.rules.specs.State.{State}
 use Rattle.rules.specs.StepA.{withAtn}
-use Rattle.rules.specs.StepB.{scsiseqWith}
+use Rattle.rules.specs.StepB.{scsiseqWith, afterSequencer}
 use Rattle.rules.specs.Ranges.{InRange, InBytes}
 use Rattle.rules.specs.declared.chip.Sequenced.{Sequenced}
 use Rattle.image.specs.Image.{imageOf, stateAt, IsImage, scsisigByte}
@@ -30,6 +31,11 @@ module _ {m : List ℕ} (s : State) (e : m ≡ imageOf s) (r : InRange s) where
 
   pub image-again : InBytes s → IsImage m
   image-again b = subst IsImage (sym e) (is-image s r b)
+
+  -- the sequencer where it does not rest, and nothing where it does
+  pub unless-rests : (tick : Bool) {before quiet : ℕ} → before ≡ quiet → (rests : Bool) → (rests ≡ true → afterSequencer tick quiet s ≡ s) → cond rests m (imageOf (afterSequencer tick before (stateAt m))) ≡ imageOf (afterSequencer tick quiet s)
+  unless-rests tick q true f = e ∙ ap imageOf (sym (f refl))
+  unless-rests tick q false f = λ i. imageOf (afterSequencer tick (q i) (reads-back i))
 
 -- the quiet ticks in their place
 pub quiet-at : (m : List ℕ) → getD m quietPlace 0 ≡ (stateAt m) .quiet

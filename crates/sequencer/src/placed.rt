@@ -1,6 +1,6 @@
 // The sequencer's part of B in place.
 ghost use mathlib.Core.Path.{_≡_};
-ghost use mathlib.Core.Bool.{false};
+ghost use mathlib.Core.Bool.{false, cond};
 ghost use Prim.Native.Nat.{_<_};
 ghost use Rattle.rules.specs.Counter.{counterSize};
 ghost use Rattle.rules.specs.Registers.{scsiseqOf, scsiseqByte, scsisigOf};
@@ -52,10 +52,20 @@ fn sequenced_put(m: &mut Image, x: Sequenced)
     m[QUIET] = x.quiet;
 }
 
-pub fn sequenced_in(m: &mut Image, tick: bool, before: u8)
+fn sequenced_in(m: &mut Image, tick: bool, before: u8)
     requires { ⌜ IsImage (now m) ⌝ }
     ensures { λ _. ⌜ now (m .exit) ≡ imageOf (afterSequencer tick before (stateAt (now (m .entry)))) ⌝ }
 {
     let x = sequenced(m, tick, before);
     sequenced_put(m, x);
+}
+
+// Where it rests, it is not asked.
+pub fn sequenced_unless(m: &mut Image, rests: bool, tick: bool, before: u8)
+    requires { ⌜ IsImage (now m) ⌝ }
+    ensures { λ _. ⌜ now (m .exit) ≡ cond rests (now (m .entry)) (imageOf (afterSequencer tick before (stateAt (now (m .entry))))) ⌝ }
+{
+    if !rests {
+        sequenced_in(m, tick, before);
+    }
 }

@@ -35,7 +35,8 @@ fn stepped_over(c: Chip, bytes: &[u8], answer: &mut [u8]) -> Returned
 {
     let mut m = [0u8; SIZE];
     chips::store(c, &mut m);
-    let reply = stepped(&mut m, bytes);
+    let mut spare = [0u8; SIZE];
+    let reply = stepped(&mut m, bytes, &mut spare);
     let b = reply.answer;
     store_at(b, answer, 0);
     let chip = chips::load(&m);

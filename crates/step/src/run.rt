@@ -16,7 +16,7 @@ use rules::records::ANSWER_SIZE;
 use rules::records::RECORD_SIZE;
 
 // Record i, and its answer in its place; the last record ends where the slice does.
-fn record_answered(m: &mut Image, records: &[u8], answers: &mut [u8], i: usize)
+fn record_answered(m: &mut Image, spare: &mut Image, records: &[u8], answers: &mut [u8], i: usize)
     requires { ⌜ IsImage (now m) ⌝ }
     requires { ⌜ 4 * i < length (now records) ⌝ }
     requires { ⌜ 16 * i + 16 ≤ length (now answers) ⌝ }
@@ -24,7 +24,7 @@ fn record_answered(m: &mut Image, records: &[u8], answers: &mut [u8], i: usize)
 {
     let from = RECORD_SIZE * i;
     let end = from + smaller(RECORD_SIZE, records.len() - from);
-    let reply = stepped(m, &records[from..end]);
+    let reply = stepped(m, &records[from..end], spare);
     let b = reply.answer;
     store_at(b, answers, ANSWER_SIZE * i);
 }
@@ -39,9 +39,10 @@ pub fn run(c: Chip, records: &[u8], answers: &mut [u8]) -> Ran
     );
     let chip = tidied(c);
     let mut m = [0u8; SIZE];
+    let mut spare = [0u8; SIZE];
     chips::store(chip, &mut m);
     for i in 0..n {
-        record_answered(&mut m, records, answers, i);
+        record_answered(&mut m, &mut spare, records, answers, i);
     }
     let last = chips::load(&m);
     Ran {

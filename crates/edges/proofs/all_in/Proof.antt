@@ -14,7 +14,7 @@ applied-in-requires c κs =
     let a = start .args in
     let s = stateAt (a .m .now) in (
       start .pre,
-      subst (λ (g : Edges). Room g (s .transfer)) (sym (c .before .edges-of .ensures)) (room-from (a .was .rst) (a .was .req) s (a .ticks)),
+      subst (λ (g : Edges). Room g (s .transfer)) (sym (c .before .edges-of .ensures)) (room-from (a .rst) (a .req) s (a .ticks)),
     )
 
 returns : tie.Need-returns
@@ -22,7 +22,7 @@ returns c =
     let found = c .before .before in
     let a = found .before .before .args in (
       ap (λ (g : Edges). g .beyond) (found .edges-of .ensures),
-      c .applied-in .ensures ∙ ap (λ (g : Edges). imageOf (appliedFrom g (a .was .mismatched) (stateAt (a .m .now)))) (found .edges-of .ensures),
+      c .applied-in .ensures ∙ ap (λ (g : Edges). imageOf (appliedFrom g (a .mismatched) (stateAt (a .m .now)))) (found .edges-of .ensures),
     )
 
 pub all-in-spec : {M : Type 1} → statement M

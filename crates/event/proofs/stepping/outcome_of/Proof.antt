@@ -1,47 +1,50 @@
-use Prim.Native.Nat.{ℕ, zero, suc, _+_, _-_, _%_, _<_, _≤_}
+use Prim.Native.Nat.{ℕ, zero, suc, _+_, _-_, _<_, _≤_}
+use mathlib.Core.Bool.{true, false}
 use mathlib.Core.Path.{_≡_, refl, ap, sym, subst, _∙_}
 use native.Mathlib.Omega.{arith}
-use mathlib.Core.List.{List}
+use lib.Dec.{eqb}
 use lib.ListN.{getD}
-use Rattle.rules.specs.State.{State}
-use Rattle.rules.specs.Answers.{Stepped}
-use Rattle.rules.specs.Registers.{simode0Of, simode1Of}
-use Rattle.rules.specs.Seen.{rstSeen, reqSeen, mismatched}
-use Rattle.rules.specs.Step.{done, joined, singleTicks, step}
+use Rattle.rules.specs.Step.{step}
 use Rattle.rules.specs.Records.{decode}
-use Rattle.rules.specs.Rest.{AtRest}
 use Rattle.rules.proofs.Ranges.{decode-fits}
-use Rattle.rules.proofs.Reports.{step-fits}
-use Rattle.image.specs.Image.{imageOf, stateAt, IsImage}
+use Rattle.rules.specs.Answers.{Stepped}
+use Rattle.rules.proofs.Reports.{step-fits, StepReports}
+use Rattle.image.specs.Image.{stateAt}
 use Rattle.image.specs.Layout.{simode0Place, simode1Place}
 use Rattle.edges.specs.Since.{rstOf, reqOf, mismatchedOf}
 use Rattle.edges.proofs.Still.{rst-of, req-of, mismatched-of}
-use Rattle.effects.proofs.ImageOnward.{state-is, image-is}
-use Rattle.event.proofs.Ticking.{after-sums, after-leaves}
-use Rattle.event.specs.Outcomes.{endedAs}
 use Rattle.event.proofs.Starts as starts
+use Rattle.event.proofs.Turns as turns
+use borrow.Author.Tests.{eqb-true, not-true, not-false}
+use Rattle.rules.proofs.Logic.{left-true, right-true}
 use borrow.Author.Needs.{needs}
 use Rattle.event.proofs.stepping.outcome_of.Statement.{statement}
 use Rattle.event.proofs.stepping.outcome_of.Tie as tie
 
--- what was seen and enabled before the event
-onward : (c : tie.Else1) → starts.Onward (step (stateAt (c .before .before .before .before .before .before .before .before .args .m .now)) (c .before .before .before .before .before .before .before .before .args .bytes .now)) (c .before .opened .last .0) (c .before .before .before .before .before .seen-in .result) (getD (c .before .before .before .before .before .before .before .before .args .m .now) simode0Place 0) (getD (c .before .before .before .before .before .before .before .before .args .m .now) simode1Place 0) (c .before .opened .result .ticks) (c .before .opened .result .value)
+-- whatever the whole event is by what A left, the turn goes on towards it
+abbrev Inv-loop : tie.InvT-loop
+Inv-loop m₀ bytes spare₀ seen₀ before0₀ before1₀ a one left₀ since₀ first₀ o₀ m spare seen before0 before1 left since first o =
+    (y : Stepped) → starts.Onward y m₀ seen₀ before0₀ before1₀ (a .ticks) (a .value) → turns.Turn y m spare seen before0 before1 one (a .value) left since first o
+
+abbrev μ-loop : tie.MeasureT-loop
+μ-loop m₀ bytes spare₀ seen₀ before0₀ before1₀ a one left₀ since₀ first₀ o₀ m spare seen before0 before1 left since first o = left
+
+-- what A left, and the record
+begun : (e : tie.Else1 Inv-loop μ-loop) → starts.Onward (step (stateAt (e .before .before .before .before .before .before .before .before .args .m .now)) (e .before .before .before .before .before .before .before .before .args .bytes .now)) (e .before .opened .last .0) (e .before .before .before .before .before .seen-in .result) (getD (e .before .before .before .before .before .before .before .before .args .m .now) simode0Place 0) (getD (e .before .before .before .before .before .before .before .before .args .m .now) simode1Place 0) (e .before .opened .result .ticks) (e .before .opened .result .value)
 unfolding step stateAt
-onward c =
-    let a = c .before in
+begun e =
+    let a = e .before in
     let seen = a .before .before .before .before in
     let start = seen .before .before .before in
     let m = start .args .m .now in
-    starts.opens-onward (stateAt m) (start .pre .range) (start .pre .bytes) (a .opened .result) (ap rstOf (seen .seen-in .ensures) ∙ rst-of m) (ap reqOf (seen .seen-in .ensures) ∙ req-of m) (ap mismatchedOf (seen .seen-in .ensures) ∙ mismatched-of m) refl refl (decode (start .args .bytes .now)) (decode-fits (start .args .bytes .now)) (a .opened .ensures) (c .if1 .left)
+    starts.opens-onward (stateAt m) (start .pre .range) (start .pre .bytes) (a .opened .result) (ap rstOf (seen .seen-in .ensures) ∙ rst-of m) (ap reqOf (seen .seen-in .ensures) ∙ req-of m) (ap mismatchedOf (seen .seen-in .ensures) ∙ mismatched-of m) refl refl (decode (start .args .bytes .now)) (decode-fits (start .args .bytes .now)) (a .opened .ensures) (e .if1 .left)
 
--- the ticks after the first, by the code's number of them
-from : (x : Stepped) (ticks : ℕ) {y : Stepped} → 2 ≤ ticks → ((k : ℕ) → ticks ≡ suc (suc k) → joined x (singleTicks (suc k) (x .state)) ≡ y) → joined x (singleTicks (ticks - 1) (x .state)) ≡ y
-from x ticks h f =
-    let e : ticks - 1 ≡ suc (ticks - 2) = omega arith in
-    let g : ticks ≡ suc (suc (ticks - 2)) = omega arith in
-    ap (λ (n : ℕ). joined x (singleTicks n (x .state))) e ∙ f (ticks - 2) g
+reported : (e : tie.Else1 Inv-loop μ-loop) → StepReports (step (stateAt (e .before .before .before .before .before .before .before .before .args .m .now)) (e .before .before .before .before .before .before .before .before .args .bytes .now))
+reported e =
+    let start = e .before .before .before .before .before .before .before .before in
+    step-fits (stateAt (start .args .m .now)) (start .args .bytes .now) (start .pre .range)
 
-returns : tie.Need-returns
+returns : tie.Need-returns Inv-loop μ-loop
 unfolding step
 returns c =
     let branch = c .before in
@@ -49,47 +52,68 @@ returns c =
     let start = a .before .before .before .before .before .before .before in
     rw (c .ended .ensures) (starts.opens-leaves (stateAt (start .args .m .now)) (start .pre .range) (a .opened .result) (decode (start .args .bytes .now)) (a .opened .ensures) (branch .if1 .taken))
 
-finished-requires : tie.Need-finished-requires
-finished-requires c κs = starts.at-ticks ((onward (c .before .before)) .ready) (c .at-most-one .ensures)
+sub-left : tie.Need-sub-left Inv-loop μ-loop
+sub-left c = omega (arith, c .before .at-most-one .ensures)
 
-returns-2 : tie.Need-returns-2
+loop-holds : tie.Need-loop-holds Inv-loop μ-loop
+loop-holds c y w = turns.begin _ _ w (c .before .before .at-most-one .ensures) refl (omega arith)
+
+finished-requires : tie.Need-finished-requires Inv-loop μ-loop
+finished-requires c κs = (c .before .loop .inv _ (begun (c .before .before .before .before .before))) .ready
+
+returns-2 : tie.Need-returns-2 Inv-loop μ-loop
 returns-2 c =
-    let finished = c .before .before in
-    let o = onward (finished .before .before .before) in
-    starts.leaves-as (o .few (c .if2 .taken)) (finished .finished .ensures (starts.at-ticks (o .ready) (finished .before .at-most-one .ensures)))
+    let fin = c .before in
+    let loop = fin .before .before .loop in
+    let w = loop .inv _ (begun (fin .before .before .before .before .before .before)) in
+    let first = loop .first in
+    let left = loop .left in
+    turns.turn-only w (fin .finished .ensures (w .ready)) (left-true first (eqb left 0) (c .if2 .taken)) (eqb-true left 0 (right-true first (eqb left 0) (c .if2 .taken)))
 
-passed-requires : tie.Need-passed-requires
-passed-requires c κs =
-    let finished = c .before .before .before .before in
-    let o = onward (finished .before .before .before) in
-    let x = (done (o .ready .state) (o .ready .event)) .state in
-    let l = finished .finished .ensures (starts.at-ticks (o .ready) (finished .before .at-most-one .ensures)) in
-    let k = starts.done-left (o .ready) in
-    (image-is x (l .image) (k .range) (k .bytes), subst AtRest (sym (state-is x (l .image) (k .range) (k .bytes))) (k .rests))
+added-requires : tie.Need-added-requires Inv-loop μ-loop
+added-requires c κs =
+    let fin = c .before in
+    let e = fin .before .before .before .before .before .before in
+    let w = fin .before .before .loop .inv _ (begun e) in
+    turns.turn-sums w (fin .finished .ensures (w .ready)) (reported e)
 
-after-first-requires : tie.Need-after-first-requires
-after-first-requires c κs =
-    let chosen = c .before .before .before in
-    let finished = chosen .before .before in
-    let branch = finished .before .before .before in
-    let o = onward branch in
-    let ticks = branch .before .opened .result .ticks in
-    let start = branch .before .before .before .before .before .before .before .before in
-    let l = finished .finished .ensures (starts.at-ticks (o .ready) (finished .before .at-most-one .ensures)) in
-    let k = starts.done-left (o .ready) in
-    after-sums (ticks - 1) l (k .range) (k .bytes) (c .passed .ensures) (from (done (o .ready .state) (o .ready .event)) ticks (chosen .if2 .left) (o .many)) (step-fits (stateAt (start .args .m .now)) (start .args .bytes .now) (start .pre .range))
+onward-requires : tie.Need-onward-requires Inv-loop μ-loop
+onward-requires c κs =
+    let fin = c .before .before .before .before .before in
+    let w = fin .before .before .loop .inv _ (begun (fin .before .before .before .before .before .before)) in
+    let l = fin .finished .ensures (w .ready) in
+    (turns.turn-image w l, (turns.turn-rests w l, turns.turn-leads w l (c .told .ensures)))
 
-returns-3 : tie.Need-returns-3
+returns-3 : tie.Need-returns-3 Inv-loop μ-loop
 returns-3 c =
-    let passed = c .before in
-    let chosen = passed .before .before .before in
-    let finished = chosen .before .before in
-    let branch = finished .before .before .before in
-    let o = onward branch in
-    let ticks = branch .before .opened .result .ticks in
-    let l = finished .finished .ensures (starts.at-ticks (o .ready) (finished .before .at-most-one .ensures)) in
-    let k = starts.done-left (o .ready) in
-    after-leaves (ticks - 1) l (k .range) (k .bytes) (passed .passed .ensures) (from (done (o .ready .state) (o .ready .event)) ticks (chosen .if2 .left) (o .many)) (c .after-first .ensures)
+    let ahead = c .before .before in
+    let fin = c .before .before .before .before .before .before .before .before in
+    let w = fin .before .before .loop .inv _ (begun (fin .before .before .before .before .before .before)) in
+    let l = fin .finished .ensures (w .ready) in
+    let g = ahead .onward .ensures in
+    turns.turn-last w l (c .before .before .before .before .before .before .added .ensures) (turns.some-left _ _ (c .before .before .before .before .before .before .before .if2 .left)) (g .image) (g .none (not-true (ahead .onward .result .more) (c .if3 .taken)))
+
+ticked-requires : tie.Need-ticked-requires Inv-loop μ-loop
+ticked-requires c κs = (c .before .before .before .before .before .before .before .onward .ensures .image, omega arith)
+
+loop-less : tie.Need-loop-less Inv-loop μ-loop
+loop-less c =
+    let g = c .before .before .before .before .before .before .before .before .onward .ensures in
+    omega (arith, g .less (not-false (c .before .before .before .before .before .before .before .before .onward .result .more) (c .before .before .before .before .before .before .if3 .left)))
+
+loop-again : tie.Need-loop-again Inv-loop μ-loop
+unfolding stateAt
+loop-again c y b =
+    let ahead = c .before .before .before .before .before .before .before .before in
+    let fin = c .before .before .before .before .before .before .before .before .before .before .before .before .before .before in
+    let w = fin .before .before .loop .inv y b in
+    let l = fin .finished .ensures (w .ready) in
+    let g = ahead .onward .ensures in
+    let seen = c .before .before .before .before in
+    let m = ahead .onward .last .0 in
+    turns.turn-next w l (c .before .before .before .before .before .before .before .before .before .before .before .before .added .ensures) (c .ticked .result) (not-false (ahead .onward .result .more) (c .before .before .before .before .before .before .if3 .left)) g (ap rstOf (seen .seen-in2 .ensures) ∙ rst-of m) (ap reqOf (seen .seen-in2 .ensures) ∙ req-of m) (ap mismatchedOf (seen .seen-in2 .ensures) ∙ mismatched-of m) refl refl (c .ticked .ensures)
 
 pub outcome-of-spec : {M : Type 1} → statement M
-outcome-of-spec = tie.close (tie.spec (λ c κs. search needs) (λ c. search needs) (λ c. search needs) (λ c κs. search needs) (λ c κs. search needs) returns (λ c κs. search needs) finished-requires returns-2 (λ c. search needs) passed-requires after-first-requires returns-3)
+outcome-of-spec =
+    tie.close
+    (tie.spec Inv-loop μ-loop (λ c κs. search needs) (λ c. search needs) (λ c. search needs) (λ c κs. search needs) (λ c κs. search needs) returns (λ c κs. search needs) sub-left (λ c κs. search needs) loop-holds finished-requires returns-2 added-requires (λ c κs. search needs) onward-requires returns-3 (λ c κs. search needs) (λ c. search needs) (λ c. search needs) ticked-requires loop-less loop-again)

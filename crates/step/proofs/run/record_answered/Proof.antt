@@ -15,7 +15,7 @@ returns : tie.Need-returns
 returns c =
     let store = c .before .before in
     let stepped = store .before .before .before in
-    let ends = stepped .before .before .before in
+    let ends = stepped .before .before .before .before in
     let start = ends .before .before .before in
     let a = start .args in
     let l = a .records .now in

@@ -17,7 +17,7 @@ use Rattle.step.proofs.run.run.Statement.{statement}
 use Rattle.step.proofs.run.run.Tie as tie
 
 abbrev Inv-loop : tie.InvT-loop
-Inv-loop records answers₀ n m₀ i₀ buffer m i =
+Inv-loop records answers₀ n m₀ spare₀ i₀ buffer m spare i =
     (i ≤ n)
     × (n ≡ steppedIn records answers₀)
     × (4 * n < length records + 4)
@@ -30,7 +30,7 @@ Inv-loop records answers₀ n m₀ i₀ buffer m i =
     × (buffer ≡ joined (answers (stateAt m₀) (recordsOf i records)) ++ drop (16 * i) answers₀)
 
 abbrev μ-loop : tie.MeasureT-loop
-μ-loop records answers₀ n m₀ i₀ buffer m i = n - i
+μ-loop records answers₀ n m₀ spare₀ i₀ buffer m spare i = n - i
 
 store-requires : tie.Need-store-requires Inv-loop μ-loop
 store-requires c κs =
@@ -55,8 +55,8 @@ loop-holds c =
 
 record-answered-requires : tie.Need-record-answered-requires Inv-loop μ-loop
 record-answered-requires c κs =
-    let l = c .before .before .before .loop in
-    let a = c .before .before .before .before .before .before .before .before .before .before .args in (
+    let l = c .before .before .before .before .loop in
+    let a = c .before .before .before .before .before .before .before .before .before .before .before .args in (
       image-reached _ (l .inv .7 .range) (l .inv .7 .bytes) (a .records .now) (a .answers .now) (l .i) (l .inv .8) (l .inv .9),
       (omega arith, omega arith),
     )
@@ -64,10 +64,10 @@ record-answered-requires c κs =
 loop-again : tie.Need-loop-again Inv-loop μ-loop
 loop-again c =
     let record-answered = c .before .before .record-answered in
-    let t = c .before .before .before .before .before .loop-test .taken in
-    let l = c .before .before .before .before .before .before .loop in
-    let a = c .before .before .before .before .before .before .before .before .before .before .before .before .before .args in
-    let same = record-answered .kept .1 .1 .0 in (
+    let t = c .before .before .before .before .before .before .loop-test .taken in
+    let l = c .before .before .before .before .before .before .before .loop in
+    let a = c .before .before .before .before .before .before .before .before .before .before .before .before .before .before .args in
+    let same = record-answered .kept .1 .1 .1 .0 in (
       omega (arith, l .inv .0, t),
       l .inv .1,
       l .inv .2,
