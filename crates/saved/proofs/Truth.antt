@@ -1,0 +1,36 @@
+-- Tests that are both true, and tests that are true together.
+use mathlib.Core.Path.{_≡_, refl, sym, ap, _∙_}
+use mathlib.Core.Bool.{Bool, true, false, not, _&&_, _||_}
+use mathlib.Core.List.{List, [], _∷_}
+use Prim.Native.Nat.{ℕ}
+use lib.Dec.{eqb}
+use borrow.Author.Tests.{eqb-true, eq-eqb}
+use Rattle.rules.proofs.Logic.{never, left-true, right-true}
+use Rattle.saved.specs.Accepted.{sameBytes}
+
+pub both-true : {a b : Bool} → a ≡ true → b ≡ true → (a && b) ≡ true
+both-true e f = rw (e, f)
+
+-- two tests, each true where the other is
+pub same-truth : (a b : Bool) → (a ≡ true → b ≡ true) → (b ≡ true → a ≡ true) → a ≡ b
+same-truth true b f g = sym (f refl)
+same-truth false true f g = g refl
+same-truth false false f g = refl
+
+pub same-true : (m n : List ℕ) → sameBytes m n ≡ true → m ≡ n
+unfolding sameBytes
+same-true [] [] e = refl
+same-true [] (y ∷ n) e = absurd (never e)
+same-true (x ∷ m) [] e = absurd (never e)
+same-true (x ∷ m) (y ∷ n) e =
+    let p = eqb-true x y (left-true (eqb x y) (sameBytes m n) e) in
+    let q = same-true m n (right-true (eqb x y) (sameBytes m n) e) in
+    λ i. p i ∷ q i
+
+pub true-same : (m : List ℕ) → sameBytes m m ≡ true
+unfolding sameBytes
+true-same [] = refl
+true-same (x ∷ m) = both-true (eq-eqb x x refl) (true-same m)
+
+pub equal-same : (m n : List ℕ) → m ≡ n → sameBytes m n ≡ true
+equal-same m n e = ap (sameBytes m) (sym e) ∙ true-same m
