@@ -1,3 +1,5 @@
 pub mod Truth
 pub mod UnusedBits
 pub mod Acceptance
+pub mod Resting
+pub mod Packing

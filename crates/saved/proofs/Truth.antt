@@ -2,11 +2,13 @@
 use mathlib.Core.Path.{_≡_, refl, sym, ap, _∙_}
 use mathlib.Core.Bool.{Bool, true, false, not, _&&_, _||_}
 use mathlib.Core.List.{List, [], _∷_}
-use Prim.Native.Nat.{ℕ}
+use Prim.Native.Nat.{ℕ, zero, suc}
 use lib.Dec.{eqb}
+use lib.ListN.{getD}
 use borrow.Author.Tests.{eqb-true, eq-eqb}
 use Rattle.rules.proofs.Logic.{never, left-true, right-true}
 use Rattle.saved.specs.Accepted.{sameBytes}
+use Rattle.saved.specs.Tests.{all}
 
 pub both-true : {a b : Bool} → a ≡ true → b ≡ true → (a && b) ≡ true
 both-true e f = rw (e, f)
@@ -34,3 +36,11 @@ true-same (x ∷ m) = both-true (eq-eqb x x refl) (true-same m)
 
 pub equal-same : (m n : List ℕ) → m ≡ n → sameBytes m n ≡ true
 equal-same m n e = ap (sameBytes m) (sym e) ∙ true-same m
+
+-- one of some tests
+pub all-at : (l : List Bool) → all l ≡ true → (k : ℕ) → getD l k true ≡ true
+all-at [] e k = refl
+all-at (b ∷ []) e zero = e
+all-at (b ∷ []) e (suc k) = refl
+all-at (b ∷ c ∷ l) e zero = left-true b (all (c ∷ l)) e
+all-at (b ∷ c ∷ l) e (suc k) = all-at (c ∷ l) (right-true b (all (c ∷ l)) e) k
