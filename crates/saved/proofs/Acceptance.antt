@@ -26,14 +26,8 @@ use Rattle.image.specs.Layout.{brstcntrlPlace, counterHighPlace, counterLowPlac
 use Rattle.image.proofs.ReadBack.{read-back}
 use Rattle.image.proofs.AtPlaces.{at-scsi, at-host}
 use Rattle.saved.specs.Accepted.{sameBytes, lengthRight, countsFit, unusedClear, ticksLeave, accepted}
+use Rattle.saved.specs.Tests.{Fitting}
 use Rattle.saved.proofs.Truth.{both-true, same-true, equal-same}
-
--- the counts and the numbers, as numbers
-pub record Fitting (m : List ℕ) : Type 0 where
-  pub host : getD m hostCountPlace 0 ≤ 128
-  pub scsi : getD m scsiCountPlace 0 ≤ 8
-  pub offset : getD m offsetPlace 0 ≤ 8
-  pub quiet : getD m quietPlace 0 ≤ 8
 
 module _ (m : List ℕ) where
   abbrev h : Bool

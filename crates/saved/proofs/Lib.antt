@@ -3,3 +3,5 @@ pub mod UnusedBits
 pub mod Acceptance
 pub mod Resting
 pub mod Packing
+pub mod Zeros
+pub mod Settled

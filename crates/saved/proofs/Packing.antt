@@ -22,9 +22,9 @@ use Rattle.image.specs.Image.{scsisigByte, scsirateByte, scsiidByte, statusOf, 
 use Rattle.image.specs.Layout.{ackPlace, brstcntrlPlace, counterHighPlace, counterLowPlace, counterMiddlePlace, controlPlace, dataPlace, dmacntrl0Place, dmacntrl1Place, hostBytesPlace, hostCountPlace, identityPlace, imageSize, keptPlace, lastPlace, latchesPlace, offsetPlace, pointerPlace, quietPlace, scsiBytesPlace, scsiCountPlace, scsidatPlace, scsiidPlace, scsiratePlace, scsiseqPlace, scsisigPlace, selectionLatchesPlace, selidPlace, sequencerPlace, simode0Place, simode1Place, stackBytesPlace, statusPlace, sxfrctl0Place, sxfrctl1Place, ticksHighPlace, ticksLowPlace, ticksMiddlePlace, upperPlace}
 use Rattle.chips.proofs.FifosAsChip.{scsi-held, host-held}
 use Rattle.saved.specs.Accepted.{accepted}
-use Rattle.saved.specs.Tests.{all, registersTests, registersClear, othersTests, othersClear, allZero, zeroBetween, pastClear, acceptedTests}
+use Rattle.saved.specs.Tests.{all, Fitting, registersTests, registersClear, othersTests, othersClear, allZero, zeroBetween, pastClear, acceptedTests}
 use Rattle.saved.proofs.Truth.{both-true, same-truth, all-at}
-use Rattle.saved.proofs.Acceptance.{Fitting, counts-fitting, fitting-counts, in-bytes, in-range, image-fitting, acceptable-length, accepted-acceptable, acceptable-accepted}
+use Rattle.saved.proofs.Acceptance.{counts-fitting, fitting-counts, in-bytes, in-range, image-fitting, acceptable-length, accepted-acceptable, acceptable-accepted}
 use Rattle.saved.proofs.Resting.{resting-rests, rests-resting}
 
 -- ZEROS

@@ -44,3 +44,14 @@ all-at (b ∷ []) e zero = e
 all-at (b ∷ []) e (suc k) = refl
 all-at (b ∷ c ∷ l) e zero = left-true b (all (c ∷ l)) e
 all-at (b ∷ c ∷ l) e (suc k) = all-at (c ∷ l) (right-true b (all (c ∷ l)) e) k
+
+-- a byte against that which its parts have again
+pub again-is : {R : Type 0} (of : ℕ → R) (byte : R → ℕ) (v : ℕ) {r : R} {n : ℕ} → r ≡ of v → n ≡ byte r → eqb n v ≡ eqb (byte (of v)) v
+again-is of byte v e f = ap (λ (x : ℕ). eqb x v) (f ∙ ap byte e)
+
+-- a status against its cause: set, or else the cause does not hold
+pub set-shown : {a : Bool} (b : Bool) → a ≡ true → true ≡ (a || not b)
+set-shown b e = rw e
+
+pub unset-shown : {a b r : Bool} → a ≡ false → r ≡ b → not r ≡ (a || not b)
+unset-shown e f = rw (e, f)

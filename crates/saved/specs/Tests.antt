@@ -1,5 +1,5 @@
 -- WHAT THE CODE ASKS OF AN IMAGE, part by part; proofs/ shows that it is `accepted`.
-use Prim.Native.Nat.{ℕ, _+_, _-_}
+use Prim.Native.Nat.{ℕ, _+_, _-_, _≤_}
 use mathlib.Core.Bool.{Bool, true, not, _&&_, _||_, cond}
 use mathlib.Core.List.{List, [], _∷_}
 use lib.Dec.{eqb, leb, ltb}
@@ -13,7 +13,7 @@ use Rattle.rules.specs.StepD.{fifoConflict, pioReady}
 use Rattle.rules.specs.declared.chip.Phase.{Phase}
 use Rattle.rules.specs.declared.chip.Phase.the-variants.{Idle, Waiting, Arbitrating, Clearing, Selecting, Holding, Answering, Answered}
 use Rattle.image.specs.Image.{scsirateByte, scsiidByte, latchesOf, latchesByte, selectionOf, selectionByte, stateAt}
-use Rattle.image.specs.Layout.{ackPlace, dmacntrl0Place, dmacntrl1Place, hostBytesPlace, hostCountPlace, identityPlace, imageSize, keptPlace, latchesPlace, pointerPlace, scsiBytesPlace, scsiCountPlace, scsiidPlace, scsiratePlace, selectionLatchesPlace, simode0Place, stackBytesPlace, sxfrctl0Place, sxfrctl1Place, upperPlace}
+use Rattle.image.specs.Layout.{ackPlace, dmacntrl0Place, dmacntrl1Place, hostBytesPlace, hostCountPlace, identityPlace, imageSize, keptPlace, latchesPlace, offsetPlace, pointerPlace, quietPlace, scsiBytesPlace, scsiCountPlace, scsiidPlace, scsiratePlace, selectionLatchesPlace, simode0Place, stackBytesPlace, sxfrctl0Place, sxfrctl1Place, upperPlace}
 use Rattle.saved.specs.Accepted.{countsFit}
 
 -- all of some tests
@@ -21,6 +21,13 @@ abbrev pub all : List Bool → Bool
 all [] = true
 all (b ∷ []) = b
 all (b ∷ c ∷ l) = b && all (c ∷ l)
+
+-- the counts and the numbers, as numbers
+pub record Fitting (m : List ℕ) : Type 0 where
+  pub host : getD m hostCountPlace 0 ≤ 128
+  pub scsi : getD m scsiCountPlace 0 ≤ 8
+  pub offset : getD m offsetPlace 0 ≤ 8
+  pub quiet : getD m quietPlace 0 ≤ 8
 
 -- the registers that have unused bits: each is the byte that what it stands for has again
 abbrev pub registersTests : List ℕ → List Bool

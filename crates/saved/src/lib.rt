@@ -3,6 +3,7 @@ ghost use mathlib.Core.Path.{_≡_};
 ghost use Rattle.saved.specs.Accepted.{countsFit, accepted};
 use crate::clear::others_clear;
 use crate::clear::registers_clear;
+use crate::past::is_bytes;
 use crate::past::past_clear;
 use crate::rest::is_resting;
 use image::layout::HOST_COUNT;
@@ -27,6 +28,7 @@ fn counts_fit(m: &Image) -> bool
 pub fn is_accepted(m: &Image) -> bool
     ensures { λ b. ⌜ b ≡ accepted (now (m .entry)) ⌝ }
 {
+    is_bytes(m);
     if !counts_fit(m) {
         return false;
     }
