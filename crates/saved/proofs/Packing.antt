@@ -1,10 +1,10 @@
 -- The tests on unused bits and on the bytes past the counts hold exactly of a list that is the image of the chip that it stands for.
 use Prim.Native.Nat.{ℕ, zero, suc, _+_, _*_, _-_, _/_, _%_, _^_, _≤_, _<_}
 use mathlib.Core.Path.{_≡_, refl, sym, ap, _∙_}
-use mathlib.Core.Bool.{Bool, true, false, _&&_, _||_}
+use mathlib.Core.Bool.{Bool, true, false, not, _&&_, _||_}
 use mathlib.Core.List.{List, [], _∷_, _++_}
 use native.Mathlib.Omega.{arith}
-use borrow.Author.Tests.{eqb-true, eq-eqb, ltb-true, lt-ltb}
+use borrow.Author.Tests.{eqb-true, eq-eqb, ltb-true, lt-ltb, not-true, not-false}
 use lib.Dec.{eqb, ltb, eqb→eq}
 use lib.ListN.{length, take, drop, getD, replicate, length-take, length-drop, length-replicate, take-append-drop}
 use lib.Seq.{take-add, take-all, drop-at, drop-drop, take-take, length-take-le}
@@ -21,9 +21,9 @@ use Rattle.laws.proofs.Tables.{below, below-at}
 use Rattle.image.specs.Image.{scsisigByte, scsirateByte, scsiidByte, statusOf, statusByte, latchesOf, latchesByte, phaseOf, sequencerByte, statusesOf, selectionOf, selectionByte, upperByte, controlByte, headOf, imageOf, linesAt, sequencerAt, stateAt, IsImage}
 use Rattle.image.specs.Layout.{ackPlace, brstcntrlPlace, counterHighPlace, counterLowPlace, counterMiddlePlace, controlPlace, dataPlace, dmacntrl0Place, dmacntrl1Place, hostBytesPlace, hostCountPlace, identityPlace, imageSize, keptPlace, lastPlace, latchesPlace, offsetPlace, pointerPlace, quietPlace, scsiBytesPlace, scsiCountPlace, scsidatPlace, scsiidPlace, scsiratePlace, scsiseqPlace, scsisigPlace, selectionLatchesPlace, selidPlace, sequencerPlace, simode0Place, simode1Place, stackBytesPlace, statusPlace, sxfrctl0Place, sxfrctl1Place, ticksHighPlace, ticksLowPlace, ticksMiddlePlace, upperPlace}
 use Rattle.chips.proofs.FifosAsChip.{scsi-held, host-held}
-use Rattle.saved.specs.Accepted.{accepted}
-use Rattle.saved.specs.Tests.{all, Fitting, registersTests, registersClear, othersTests, othersClear, allZero, zeroBetween, pastClear, acceptedTests}
-use Rattle.saved.proofs.Truth.{both-true, same-truth, all-at}
+use Rattle.saved.specs.Accepted.{countsFit, accepted}
+use Rattle.saved.specs.Tests.{all, Fitting, registersTests, registersClear, othersTests, othersClear, allZero, zeroBetween, pastClear, resting, acceptedTests}
+use Rattle.saved.proofs.Truth.{both-true, same-truth, all-at, one-false}
 use Rattle.saved.proofs.Acceptance.{counts-fitting, fitting-counts, in-bytes, in-range, image-fitting, acceptable-length, accepted-acceptable, acceptable-accepted}
 use Rattle.saved.proofs.Resting.{resting-rests, rests-resting}
 
@@ -299,3 +299,16 @@ accepted-by m b e = same-truth (accepted m) (all (acceptedTests m)) to from
         let f = counts-fitting m (all-at (acceptedTests m) h 0) in
         let i = tested-image m b e f (all-at (acceptedTests m) h 1) (all-at (acceptedTests m) h 2) (all-at (acceptedTests m) h 3) in
         acceptable-accepted m (record { image = i; rest = resting-rests (stateAt m) (all-at (acceptedTests m) h 4) })
+
+-- a test of the code that does not fail
+pub holds : {r t : Bool} → r ≡ t → not r ≡ false → t ≡ true
+holds {r} e f = sym e ∙ not-false r f
+
+-- what one that fails tells, and what the last one tells where those before it hold
+module _ (m : List ℕ) (b : (length m ≡ imageSize) × Bytes m) where
+  pub refused-at : (k : ℕ) {r : Bool} → r ≡ getD (acceptedTests m) k true → not r ≡ true → false ≡ accepted m
+  refused-at k {r} e f = one-false (acceptedTests m) k (sym e ∙ not-true r f) ∙ sym (accepted-by m (b .1) (b .0))
+
+  pub last-decides : {r : Bool} → countsFit m ≡ true → registersClear m ≡ true → othersClear m ≡ true → pastClear m ≡ true → r ≡ resting (stateAt m) → r ≡ accepted m
+  last-decides f c o p e =
+      e ∙ sym (λ i. f i && (c i && (o i && (p i && resting (stateAt m))))) ∙ sym (accepted-by m (b .1) (b .0))

@@ -55,3 +55,11 @@ set-shown b e = rw e
 
 pub unset-shown : {a b r : Bool} → a ≡ false → r ≡ b → not r ≡ (a || not b)
 unset-shown e f = rw (e, f)
+
+-- where one test fails, not all hold
+pub one-false : (l : List Bool) (k : ℕ) → getD l k true ≡ false → false ≡ all l
+one-false l k e = go (all l) refl
+  where
+    go : (b : Bool) → all l ≡ b → false ≡ b
+    go true h = absurd (never (sym e ∙ all-at l h k))
+    go false h = refl
