@@ -199,8 +199,7 @@ module _ (m : List ℕ) where
 
 -- ACCEPTED EXACTLY WHEN IT IS THE IMAGE OF A CHIP IN RANGE AND AT REST
 pub accepted-is : (m : List ℕ) → Bytes m → (accepted m ≡ true → IsImage m × AtRest (stateAt m)) × (IsImage m → AtRest (stateAt m) → accepted m ≡ true)
-accepted-is m b =
-    (
-      λ e. let a = accepted-acceptable m b e in (a .image, a .rest),
-      λ i r. acceptable-accepted m (record { image = i; rest = r }),
-    )
+accepted-is m b = (
+  λ e. let a = accepted-acceptable m b e in (a .image, a .rest),
+  λ i r. acceptable-accepted m (record { image = i; rest = r }),
+)
