@@ -118,7 +118,7 @@ pub fn fallen_in(m: &mut Image, acks: u8)
 }
 
 // "Normal mode with DMAEN, SCSIEN and no path sets FWERR."
-fn fifo_conflict(m: &Image) -> bool
+pub fn fifo_conflict(m: &Image) -> bool
     ensures { λ b. ⌜ b ≡ fifoConflict (registersAt (now (m .entry))) ⌝ }
 {
     if normal(m) {
@@ -129,7 +129,7 @@ fn fifo_conflict(m: &Image) -> bool
 }
 
 // "Automatic mode, matched, REQ seen, automatic ACK off sets SPIORDY."
-fn pio_ready(m: &Image) -> bool
+pub fn pio_ready(m: &Image) -> bool
     ensures { λ b. ⌜ b ≡ pioReady (stateAt (now (m .entry))) ⌝ }
 {
     if automatic(m) {

@@ -16,7 +16,7 @@ use image::layout::QUIET;
 use image::layout::SCSISEQ;
 use image::layout::SEQUENCER;
 
-mod called;
+pub mod called;
 mod changes;
 mod placed;
 mod raised;

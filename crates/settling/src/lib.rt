@@ -19,8 +19,8 @@ use image::layout::LINES_DATA;
 use image::layout::OFFSET;
 use rules::chip::Conditions;
 
-mod moves;
-mod shakes;
+pub mod moves;
+pub mod shakes;
 
 // What settling tells of: the moves, the ACKs, and the bytes sent with their count.
 pub struct Told {
@@ -41,7 +41,7 @@ fn enabled(m: &Image) -> bool
 }
 
 // What settling looks at and does not change; where a byte is stored, the lines alone are seen.
-fn conditions_of(m: &Image) -> Conditions
+pub fn conditions_of(m: &Image) -> Conditions
     ensures { λ r. ⌜ r ≡ lookedAt (stateAt (now (m .entry))) ⌝ }
 {
     let way = path(m);
