@@ -16,8 +16,6 @@ const RECORD: usize = 4;
 
 /// Code 1 in the answer's first byte, where the image is refused.
 const REFUSED: u8 = 1;
-/// The record of 0 ticks.
-const NO_TICKS: [u8; RECORD] = [6 << 5, 0, 0, 0];
 
 // Places, in the order of docs/IMAGE.md.
 const SEQUENCE_CONTROL: usize = 0;
@@ -116,8 +114,10 @@ pub fn read(image: &[u8]) -> Option<Chip> {
     if !well_formed(image) {
         return None;
     }
-    let chip = chip_of(image);
-    rests(&chip).then_some(chip)
+    // "an event of 0 ticks would not change the chip".
+    let mut chip = chip_of(image);
+    chip.pass_no_ticks();
+    (chip == chip_of(image)).then_some(chip)
 }
 
 /// One event on an image, in its place; the code.
@@ -205,14 +205,6 @@ fn rests_of_fifos_zero(image: &[u8; SIZE]) -> bool {
 #[inline]
 fn all_zero(bytes: &[u8]) -> bool {
     bytes.iter().fold(0, |set, byte| set | byte) == 0
-}
-
-/// "an event of 0 ticks would not change the chip".
-#[inline]
-fn rests(chip: &Chip) -> bool {
-    let mut later = chip.clone();
-    step(&mut later, &NO_TICKS);
-    later == *chip
 }
 
 // From an image to a chip.

@@ -32,12 +32,24 @@ impl Chip {
         outcome
     }
 
-    /// One tick: steps B to D, as A has nothing to do.
+    /// An event of 0 ticks, whose outcome nobody asks for.
+    #[inline]
+    pub fn pass_no_ticks(&mut self) {
+        self.pass(false, &mut Outcome::default());
+    }
+
+    /// One tick.
     #[inline]
     fn pass_tick(&mut self, outcome: &mut Outcome) {
+        self.pass(true, outcome);
+    }
+
+    /// Steps B to D, as A has nothing to do.
+    #[inline]
+    fn pass(&mut self, tick: bool, outcome: &mut Outcome) {
         let before = self.remember();
         // No line that others drive changes, so that no REQ rises.
-        self.edges(before, true);
+        self.edges(before, tick);
         self.settle(outcome);
         self.standing_conditions();
     }
