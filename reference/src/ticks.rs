@@ -154,12 +154,17 @@ mod tests {
         chip
     }
 
-    /// Any phase, its ticks anywhere or shortly before its end.
+    /// Any phase, its ticks anywhere or shortly before its end; now and then
+    /// such as only an image gives, R-5: beyond the end, or where none count.
     fn random_sequencer(random: &mut Random, chip: &Chip) -> Sequencer {
         let mut sequencer = Sequencer {
             phase: random.pick(&PHASES),
             ticks: 0,
         };
+        if random.percent(10) {
+            sequencer.ticks = random.between(0, 0xFF_FFFF) >> random.below(24);
+            return sequencer;
+        }
         let mut probe = chip.clone();
         probe.sequencer = sequencer;
         if let Some(length) = probe.phase_length(true) {

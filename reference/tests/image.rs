@@ -626,3 +626,64 @@ fn a_changed_bit_is_refused_or_steps_as_the_changed_chip() {
     });
     assert!(refused > 50_000 && stepped > 50_000, "{refused} {stepped}");
 }
+
+// Chips that only an image gives.
+
+/// A chip with these changes is accepted, and an event of ticks leaves it so.
+fn assert_ticks(chip: Chip, ticks: u32, expected: Chip) {
+    let mut image = image_of(&chip);
+    assert_eq!(read(&image), Some(chip));
+    let record = (6 << 29 | ticks).to_be_bytes();
+    assert_eq!(step_image(&mut image, &record, &mut [OLD; 16]), 0);
+    assert_eq!(read(&image), Some(expected));
+}
+
+/// SCSIPERR without ENSPCHK, and a note without SELDI: events of ticks leave
+/// both.
+#[test]
+fn statuses_that_no_event_leaves_stay() {
+    let chip = Chip {
+        status1: 0x04,
+        seldi_noted: true,
+        ..Chip::new()
+    };
+    assert_ticks(chip.clone(), 0, chip.clone());
+    let later = Chip {
+        quiet_ticks: 3,
+        ..chip.clone()
+    };
+    assert_ticks(chip, 3, later);
+}
+
+/// Ticks of a phase that does not count are left by 0 ticks and gone with the
+/// first one.
+#[test]
+fn ticks_that_do_not_count_go_with_the_next() {
+    for (phase, enables) in [
+        (Phase::Idle, 0),
+        (Phase::Idle, 0x10),
+        (Phase::Selecting, 0),
+        (Phase::Holding, 0),
+        (Phase::Answered, 0),
+    ] {
+        let mut chip = at(phase).chip;
+        chip.scsiseq |= enables;
+        let rested = chip.clone();
+        chip.sequencer.ticks = 5;
+        assert_ticks(chip.clone(), 0, chip.clone());
+        assert_ticks(chip, 1, rested);
+    }
+}
+
+/// Ticks beyond a phase's length end it with the next one.
+#[test]
+fn ticks_beyond_the_end_end_the_phase() {
+    let mut chip = at(Phase::Arbitrating).chip;
+    chip.sequencer.ticks = 0xFF_FFFF;
+    let mut expected = chip.clone();
+    expected.sequencer = Sequencer {
+        phase: Phase::Clearing,
+        ticks: 0,
+    };
+    assert_ticks(chip, 1, expected);
+}
