@@ -53,25 +53,23 @@ const SCSI_BYTES: usize = 35;
 const STACK_BYTES: usize = 43;
 const HOST_BYTES: usize = 75;
 
-/// The bits that stand as `-`; what follows these bytes has none.
-const UNUSED: [u8; SCSI_BYTES] = {
-    let mut unused = [0; SCSI_BYTES];
-    unused[TRANSFER_CONTROL0] = 0x17;
-    unused[TRANSFER_CONTROL1] = 0x01;
-    unused[RATE] = 0x80;
-    unused[IDS] = 0x88;
-    unused[ENABLES0] = 0x80;
-    unused[DMA_CONTROL0] = 0x02;
-    unused[DMA_CONTROL1] = 0x3F;
-    unused[LATCHES] = 0xC0;
-    unused[OTHERS_PARITY_RESET] = 0xFC;
-    unused[AUTOMATIC_ACK] = 0xFE;
-    unused[ID_PLACE] = 0xE0;
-    unused[POINTER] = 0xE0;
-    unused[KEPT_PARITY] = 0xFE;
-    unused[SEQUENCER_LATCHES] = 0xF0;
-    unused
-};
+/// The bits that stand as `-`, by their places.
+const UNUSED: [(usize, u8); 14] = [
+    (TRANSFER_CONTROL0, 0x17),
+    (TRANSFER_CONTROL1, 0x01),
+    (RATE, 0x80),
+    (IDS, 0x88),
+    (ENABLES0, 0x80),
+    (DMA_CONTROL0, 0x02),
+    (DMA_CONTROL1, 0x3F),
+    (LATCHES, 0xC0),
+    (OTHERS_PARITY_RESET, 0xFC),
+    (AUTOMATIC_ACK, 0xFE),
+    (ID_PLACE, 0xE0),
+    (POINTER, 0xE0),
+    (KEPT_PARITY, 0xFE),
+    (SEQUENCER_LATCHES, 0xF0),
+];
 
 /// "The phase of the sequencer is a number", and this its table.
 const PHASES: [Phase; 8] = [
@@ -187,11 +185,9 @@ fn numbers_in_range(image: &[u8; SIZE]) -> bool {
 
 #[inline]
 fn unused_bits_zero(image: &[u8; SIZE]) -> bool {
-    let set = image
+    UNUSED
         .iter()
-        .zip(UNUSED)
-        .fold(0, |set, (byte, unused)| set | byte & unused);
-    set == 0
+        .all(|(place, unused)| image[*place] & unused == 0)
 }
 
 /// "every byte past a count is 0"; the counts are in range.

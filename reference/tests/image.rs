@@ -460,19 +460,12 @@ fn a_chip_that_the_bus_would_change_is_refused() {
 /// "the new image in place of the old; the answer as `step::step`".
 #[test]
 fn calls_over_an_image_step_the_chip() {
-    let mut image = [0; SIZE];
-    let mut seed_image = |fresh: bool, record: &[u8]| {
-        if fresh {
-            image = [0; SIZE];
-        }
-        let mut answer = [OLD; 16];
-        let code = step_image(&mut image, record, &mut answer);
-        (code, answer, image)
-    };
     for seed in 1..31 {
         let mut chip = Chip::new();
-        for (event, record) in stream(seed, 2_000).chunks(4).enumerate() {
-            let (code, answer, image) = seed_image(event == 0, record);
+        let mut image = [0; SIZE];
+        for record in stream(seed, 2_000).chunks(4) {
+            let mut answer = [OLD; 16];
+            let code = step_image(&mut image, record, &mut answer);
             assert_eq!(answer, step(&mut chip, record));
             assert_eq!(code, answer[0] >> 5);
             assert_eq!(image, image_of(&chip));
