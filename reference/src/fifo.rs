@@ -1,6 +1,6 @@
 //! A first-in first-out store of at most SIZE bytes, in a fixed ring.
 
-#[derive(Clone, Debug, PartialEq, Eq)]
+#[derive(Clone, Debug)]
 pub struct Fifo<const SIZE: usize> {
     ring: [u8; SIZE],
     oldest: usize,
@@ -15,6 +15,17 @@ impl<const SIZE: usize> Fifo<SIZE> {
             ring: [0; SIZE],
             oldest: 0,
             count: 0,
+        }
+    }
+
+    /// A store that holds the first bytes, the oldest first.
+    #[inline]
+    pub fn stored(bytes: &[u8; SIZE], count: usize) -> Self {
+        debug_assert!(count <= SIZE);
+        Fifo {
+            ring: *bytes,
+            oldest: 0,
+            count,
         }
     }
 
@@ -60,7 +71,45 @@ impl<const SIZE: usize> Fifo<SIZE> {
         self.count -= 1;
         byte
     }
+
+    /// The bytes held, oldest first, before and after the end of the ring.
+    #[inline]
+    fn parts(&self) -> (&[u8], &[u8]) {
+        let end = self.oldest + self.count;
+        if end <= SIZE {
+            (&self.ring[self.oldest..end], &[])
+        } else {
+            (&self.ring[self.oldest..], &self.ring[..end - SIZE])
+        }
+    }
+
+    /// Writes the bytes held, oldest first, and 0 past them; there is room for
+    /// the whole ring.
+    #[inline]
+    pub fn write(&self, bytes: &mut [u8]) {
+        let (first, second) = self.parts();
+        let (held, rest) = bytes.split_at_mut(self.count);
+        let (before, after) = held.split_at_mut(first.len());
+        before.copy_from_slice(first);
+        after.copy_from_slice(second);
+        rest.fill(0);
+    }
 }
+
+/// Two stores are the same if they hold the same bytes, wherever in the ring.
+impl<const SIZE: usize> PartialEq for Fifo<SIZE> {
+    #[inline]
+    fn eq(&self, other: &Self) -> bool {
+        if self.oldest == other.oldest {
+            return self.parts() == other.parts();
+        }
+        let ((first, second), (third, fourth)) = (self.parts(), other.parts());
+        let held = first.iter().chain(second);
+        self.count == other.count && held.eq(third.iter().chain(fourth))
+    }
+}
+
+impl<const SIZE: usize> Eq for Fifo<SIZE> {}
 
 impl<const SIZE: usize> Default for Fifo<SIZE> {
     fn default() -> Self {

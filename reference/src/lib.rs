@@ -11,6 +11,7 @@ pub mod edges;
 pub mod event;
 pub mod fifo;
 pub mod hex;
+pub mod image;
 pub mod random;
 pub mod registers;
 pub mod sequencer;

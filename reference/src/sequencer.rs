@@ -124,9 +124,10 @@ impl Chip {
     /// stood at 8 at the end of the last event.
     #[inline]
     pub fn sequence(&mut self, tick: bool, was_free: bool) {
-        // Most events find nothing to do.
+        // Most events find nothing to do. Ticks that an image gives an idle
+        // sequencer are gone with the next tick, enabled or not.
         let enabled = self.scsiseq & (ENSELO | ENRESELI) != 0;
-        if enabled || self.sequencer.phase != Phase::Idle || self.sees_reset() {
+        if enabled || self.sequencer != Sequencer::default() || self.sees_reset() {
             self.sequence_enabled(tick, was_free);
         }
     }

@@ -32,12 +32,24 @@ impl Chip {
         outcome
     }
 
-    /// One tick: steps B to D, as A has nothing to do.
+    /// An event of 0 ticks, whose outcome nobody asks for.
+    #[inline]
+    pub fn pass_no_ticks(&mut self) {
+        self.pass(false, &mut Outcome::default());
+    }
+
+    /// One tick.
     #[inline]
     fn pass_tick(&mut self, outcome: &mut Outcome) {
+        self.pass(true, outcome);
+    }
+
+    /// Steps B to D, as A has nothing to do.
+    #[inline]
+    fn pass(&mut self, tick: bool, outcome: &mut Outcome) {
         let before = self.remember();
         // No line that others drive changes, so that no REQ rises.
-        self.edges(before, true);
+        self.edges(before, tick);
         self.settle(outcome);
         self.standing_conditions();
     }
@@ -142,12 +154,17 @@ mod tests {
         chip
     }
 
-    /// Any phase, its ticks anywhere or shortly before its end.
+    /// Any phase, its ticks anywhere or shortly before its end; now and then
+    /// such as only an image gives, R-5: beyond the end, or where none count.
     fn random_sequencer(random: &mut Random, chip: &Chip) -> Sequencer {
         let mut sequencer = Sequencer {
             phase: random.pick(&PHASES),
             ticks: 0,
         };
+        if random.percent(10) {
+            sequencer.ticks = random.between(0, 0xFF_FFFF) >> random.below(24);
+            return sequencer;
+        }
         let mut probe = chip.clone();
         probe.sequencer = sequencer;
         if let Some(length) = probe.phase_length(true) {

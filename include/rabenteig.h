@@ -1,0 +1,45 @@
+/* The proved model of the AIC-6360 for a C program. */
+#ifndef RABENTEIG_H
+#define RABENTEIG_H
+
+#include <stddef.h>
+#include <stdint.h>
+
+/*
+ * A chip is an image of so many bytes; docs/IMAGE.md says what each is. An image of zeros is the chip after power reset, and a
+ * host starts with it. The image that a call leaves is the chip's latest: it can be saved to a file and handed in again later,
+ * also by another process.
+ *
+ * An image is refused if its length is another, if a FIFO's count, the offset or the quiet ticks are above their limits, if an
+ * unused bit or a byte past a count is not 0, or if an event of 0 ticks would change the chip. No call leaves such an image.
+ *
+ * A slice is a pointer and then its length in bytes. The slices of one call must not overlap.
+ */
+#define RABENTEIG_IMAGE_SIZE 203
+
+/*
+ * Steps the chip by one event record of four bytes, stores the answer of sixteen bytes, and returns the code, which is also in
+ * the answer's upper three bits. The new image takes the place of the old.
+ *
+ * Code 1 is returned and no byte of the image changes
+ * - if the image is refused, whatever the record is: an answer buffer of sixteen bytes gets code 1 and otherwise zeros, so
+ *   that its first byte is 20h; another buffer is not touched;
+ * - if the image is accepted and the answer buffer is not of sixteen bytes: it is not touched;
+ * - if the image is accepted and the record is not of four bytes or not well formed: the answer has code 1 and shows the chip.
+ * The codes 2 to 5 and 7 leave the image as it was too; the codes 0 and 6 leave the new one. The record is only read.
+ */
+uint8_t rabenteig_step(uint8_t *image, size_t image_length, const uint8_t *record, size_t record_length, uint8_t *answer,
+                       size_t answer_length);
+
+/*
+ * Steps the chip by the event records, four bytes each (a last piece of 1 to 3 bytes is a record too), from where the chip
+ * stands, and stores sixteen bytes of answer for each. Stops where no whole answer fits; the rest of the answer buffer stays as
+ * it was. Returns the number of records stepped. The image that the last record leaves takes the place of the old.
+ *
+ * This is rabenteig_step for each of these records, but the image is tested once. If it is refused, each of these answers gets
+ * code 1 and otherwise zeros, no byte of the image changes, and the number of these records is returned all the same.
+ */
+size_t rabenteig_run(uint8_t *image, size_t image_length, const uint8_t *records, size_t records_length, uint8_t *answers,
+                     size_t answers_length);
+
+#endif
