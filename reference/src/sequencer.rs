@@ -124,10 +124,9 @@ impl Chip {
     /// stood at 8 at the end of the last event.
     #[inline]
     pub fn sequence(&mut self, tick: bool, was_free: bool) {
-        // Most events find nothing to do. Ticks that an image gives an idle
-        // sequencer are gone with the next tick, enabled or not.
+        // Most events find nothing to do.
         let enabled = self.scsiseq & (ENSELO | ENRESELI) != 0;
-        if enabled || self.sequencer != Sequencer::default() || self.sees_reset() {
+        if enabled || self.sequencer.phase != Phase::Idle || self.sees_reset() {
             self.sequence_enabled(tick, was_free);
         }
     }
@@ -136,7 +135,9 @@ impl Chip {
         // "RST seen: idle, SELINGO 0, and nothing below."
         if self.sees_reset() {
             self.status0 &= !SELINGO;
-            self.enter(Phase::Idle);
+            if self.sequencer.phase != Phase::Idle {
+                self.enter(Phase::Idle);
+            }
             return;
         }
         if tick {
@@ -165,9 +166,12 @@ impl Chip {
     fn sequence_tick(&mut self, was_free: bool) {
         let free = was_free && !self.sees(BSY | SEL);
         match self.phase_length(free) {
-            // Idle, holding and answered have no ticks; waiting and selecting
-            // start anew.
-            None => self.sequencer.ticks = 0,
+            // "the other phases: nothing"; waiting and selecting start anew.
+            None => {
+                if matches!(self.sequencer.phase, Phase::Waiting | Phase::Selecting) {
+                    self.sequencer.ticks = 0;
+                }
+            }
             Some(length) => {
                 self.sequencer.ticks += 1;
                 if self.sequencer.ticks >= length {

@@ -126,6 +126,10 @@ impl Chip {
             }
             _ => {}
         }
+        // "While ENSPCHK is 0, SCSIPERR is held at 0".
+        if self.sxfrctl1 & ENSPCHK == 0 {
+            self.status1 &= !SCSIPERR;
+        }
         // "REQINIT also falls when ACK is seen."
         if self.sees(ACK) {
             self.status1 &= !REQINIT;

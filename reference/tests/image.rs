@@ -243,7 +243,6 @@ fn each_status_has_its_bit() {
         (0x02, 0x00, 0x00, 12, 7), // SPIORDY
         (0x00, 0x20, 0x00, 12, 6), // SCSIRSTI
         (0x00, 0x08, 0x00, 12, 5), // BUSFREE
-        (0x00, 0x04, 0x00, 12, 4), // SCSIPERR
         (0x00, 0x02, 0x00, 12, 3), // PHASECHG
         (0x00, 0x01, 0x00, 12, 2), // REQINIT
         (0x00, 0x00, 0x04, 12, 1), // SYNCERR
@@ -282,6 +281,23 @@ fn each_status_has_its_bit() {
         };
         assert_bit(&chip, place, bit);
     }
+}
+
+/// SCSIPERR stays only with ENSPCHK.
+#[test]
+fn scsiperr_has_its_bit() {
+    let chip = Chip {
+        status1: 0x04,
+        sxfrctl1: 0x20,
+        ..Chip::new()
+    };
+    let mut image = [0; SIZE];
+    image[2] = 0x20;
+    image[12] = 0x10;
+    assert_eq!(image_of(&chip), image);
+    assert_eq!(read(&image), Some(chip));
+    image[2] = 0;
+    assert_refused(&image, "SCSIPERR held at 0");
 }
 
 fn assert_bit(chip: &Chip, place: usize, bit: u32) {
@@ -631,12 +647,10 @@ fn assert_ticks(chip: Chip, ticks: u32, expected: Chip) {
     assert_eq!(read(&image), Some(expected));
 }
 
-/// SCSIPERR without ENSPCHK, and a note without SELDI: events of ticks leave
-/// both.
+/// A note without SELDI: events of ticks leave it.
 #[test]
 fn statuses_that_no_event_leaves_stay() {
     let chip = Chip {
-        status1: 0x04,
         seldi_noted: true,
         ..Chip::new()
     };
@@ -648,23 +662,24 @@ fn statuses_that_no_event_leaves_stay() {
     assert_ticks(chip, 3, later);
 }
 
-/// Ticks of a phase that does not count are left by 0 ticks and gone with the
-/// first one.
+/// Ticks of a phase in which none count stay; those of a selection without
+/// ENSTIMER start anew with the first tick.
 #[test]
-fn ticks_that_do_not_count_go_with_the_next() {
-    for (phase, enables) in [
-        (Phase::Idle, 0),
-        (Phase::Idle, 0x10),
-        (Phase::Selecting, 0),
-        (Phase::Holding, 0),
-        (Phase::Answered, 0),
+fn ticks_that_do_not_count() {
+    for (phase, enables, left) in [
+        (Phase::Idle, 0, 5),
+        (Phase::Idle, 0x10, 5),
+        (Phase::Selecting, 0, 0),
+        (Phase::Holding, 0, 5),
+        (Phase::Answered, 0, 5),
     ] {
         let mut chip = at(phase).chip;
         chip.scsiseq |= enables;
-        let rested = chip.clone();
+        let mut later = chip.clone();
+        later.sequencer.ticks = left;
         chip.sequencer.ticks = 5;
         assert_ticks(chip.clone(), 0, chip.clone());
-        assert_ticks(chip, 1, rested);
+        assert_ticks(chip, 1, later);
     }
 }
 
