@@ -1,1 +1,1 @@
-pub mod FromReset
+pub mod ImageCalls

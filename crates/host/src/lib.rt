@@ -1,13 +1,52 @@
-// The exported function for a host program: a run of records from power reset.
-ghost use Rattle.host.specs.FromReset.{IsRunFromReset};
-use step::reset::power_reset;
+// The exported functions for a host program: the chip is handed over as the bytes of its image.
+ghost use Rattle.host.specs.ImageCalls.{IsImageCall, IsImageRun};
+use crate::copies::copy;
+use crate::over::step_over;
+use crate::refusing::refuse;
+use crate::refusing::refuse_all;
+use image::layout::SIZE;
+use saved::is_accepted;
+use saved::past::is_bytes;
+use step::run::answered;
 
-// The answers of the records, sixteen bytes each, as many as there is room for; their number.
+mod copies;
+mod over;
+mod refusing;
+
+// One record: its code; the new image in place of the old. A slice is no array, so the image is stepped in a copy.
 #[no_mangle]
-pub extern "C" fn rabenteig_run(records: &[u8], answers: &mut [u8]) -> usize
-    ensures { λ r. ⌜ IsRunFromReset (now (records .entry)) (now (answers .entry)) (now (answers .exit)) r ⌝ }
+pub extern "C" fn rabenteig_step(image: &mut [u8], record: &[u8], answer: &mut [u8]) -> u8
+    ensures { λ r. ⌜ IsImageCall (now (image .entry)) (now (record .entry)) (now (answer .entry)) (now (image .exit)) (now (answer .exit)) r ⌝ }
 {
-    let chip = power_reset();
-    let ran = step::run::run(chip, records, answers);
-    ran.count
+    if image.len() != SIZE {
+        return refuse(answer);
+    }
+    let mut m = [0u8; SIZE];
+    copy(image, &mut m);
+    is_bytes(&m);
+    if !is_accepted(&m) {
+        return refuse(answer);
+    }
+    let code = step_over(&mut m, record, answer);
+    copy(&m, image);
+    code
+}
+
+// The records one after another, the image tested once; their number.
+#[no_mangle]
+pub extern "C" fn rabenteig_run(image: &mut [u8], records: &[u8], answers: &mut [u8]) -> usize
+    ensures { λ r. ⌜ IsImageRun (now (image .entry)) (now (records .entry)) (now (answers .entry)) (now (image .exit)) (now (answers .exit)) r ⌝ }
+{
+    if image.len() != SIZE {
+        return refuse_all(records, answers);
+    }
+    let mut m = [0u8; SIZE];
+    copy(image, &mut m);
+    is_bytes(&m);
+    if !is_accepted(&m) {
+        return refuse_all(records, answers);
+    }
+    let n = answered(&mut m, records, answers);
+    copy(&m, image);
+    n
 }

@@ -3,7 +3,7 @@ ghost use mathlib.Core.Path.{_≡_};
 ghost use Prim.Native.Nat.{_+_, _*_, _<_, _≤_, min};
 ghost use lib.ListN.{length};
 ghost use Rattle.image.specs.Image.{IsImage};
-ghost use Rattle.step.specs.Runs.{IsRun, IsRecordAnswered};
+ghost use Rattle.step.specs.Runs.{IsRun, IsRunOver, IsRecordAnswered};
 use crate::Ran;
 use crate::answers::store_at;
 use crate::reset::tidied;
@@ -29,21 +29,30 @@ fn record_answered(m: &mut Image, spare: &mut Image, records: &[u8], answers: &m
     store_at(b, answers, ANSWER_SIZE * i);
 }
 
-// As many records as there is room for whole answers; the chip is laid out once and taken up again at the end.
-pub fn run(c: Chip, records: &[u8], answers: &mut [u8]) -> Ran
-    ensures { λ r. ⌜ IsRun c (now (records .entry)) (now (answers .entry)) (now (answers .exit)) r ⌝ }
+// As many records as there is room for whole answers, one after another on an image; their number.
+pub fn answered(m: &mut Image, records: &[u8], answers: &mut [u8]) -> usize
+    requires { ⌜ IsImage (now m) ⌝ }
+    ensures { λ r. ⌜ IsRunOver (now (m .entry)) (now (records .entry)) (now (answers .entry)) (now (m .exit)) (now (answers .exit)) r ⌝ }
 {
     let n = smaller(
         (records.len() + 3) / RECORD_SIZE,
         answers.len() / ANSWER_SIZE,
     );
+    let mut spare = [0u8; SIZE];
+    for i in 0..n {
+        record_answered(m, &mut spare, records, answers, i);
+    }
+    n
+}
+
+// The same of a chip by value, which is laid out once and taken up again at the end.
+pub fn run(c: Chip, records: &[u8], answers: &mut [u8]) -> Ran
+    ensures { λ r. ⌜ IsRun c (now (records .entry)) (now (answers .entry)) (now (answers .exit)) r ⌝ }
+{
     let chip = tidied(c);
     let mut m = [0u8; SIZE];
-    let mut spare = [0u8; SIZE];
     chips::store(chip, &mut m);
-    for i in 0..n {
-        record_answered(&mut m, &mut spare, records, answers, i);
-    }
+    let n = answered(&mut m, records, answers);
     let last = chips::load(&m);
     Ran {
         chip: last,
