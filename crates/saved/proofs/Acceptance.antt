@@ -1,16 +1,16 @@
 -- AN IMAGE IS ACCEPTED EXACTLY WHEN IT IS THE IMAGE OF A CHIP IN RANGE AND AT REST.
-use Prim.Native.Nat.{ℕ, _+_, _≤_, _<_}
-use mathlib.Core.Path.{_≡_, refl, sym, ap, subst, _∙_}
+use Prim.Native.Nat.{ℕ, _≤_, _<_}
+use mathlib.Core.Path.{_≡_, sym, ap, subst, _∙_}
 use mathlib.Core.Bool.{Bool, true, _&&_}
 use mathlib.Core.List.{List}
 use native.Mathlib.Omega.{arith}
 use borrow.Author.Tests.{leb-true, ltb-true, eqb-true, le-leb, lt-ltb, eq-eqb}
-use lib.ListN.{length, take, drop, getD, length-append, length-take, length-drop}
+use lib.ListN.{length, drop, getD, length-append, length-take, length-drop}
 use lib.Seq.{length-take-le}
 use lib.Dec.{leb, ltb}
 use Rattle.rules.specs.Numbers.{padded}
 use Rattle.rules.specs.State.{State}
-use Rattle.rules.specs.Step.{stepEvent, ticksTaken, access, done}
+use Rattle.rules.specs.Step.{step, stepEvent, ticksTaken, access, done}
 use Rattle.rules.specs.StepB.{afterB}
 use Rattle.rules.specs.StepD.{afterD}
 use Rattle.rules.specs.Rest.{AtRest}
@@ -18,12 +18,12 @@ use Rattle.rules.specs.Ranges.{InRange, InBytes, Bytes}
 use Rattle.rules.specs.Codes.{accessCode, isDone}
 use Rattle.rules.specs.declared.records.Event.the-variants.{Ticks}
 use Rattle.rules.proofs.Logic.{left-true, right-true}
-use Rattle.rules.proofs.Ranges.{after-b-fits, after-d, bytes-at, bytes-take, bytes-drop}
-use Rattle.rules.proofs.Still.{ticks-done, after-d-still, done-rests}
+use Rattle.rules.proofs.Ranges.{after-b-fits, after-d, bytes-at, bytes-take, bytes-drop, step-in-range, step-bytes}
+use Rattle.rules.proofs.Still.{ticks-done, after-d-still, done-rests, step-rests}
 use Rattle.laws.proofs.Lists.{padded-length}
-use Rattle.image.specs.Image.{headOf, imageOf, stateAt, IsImage}
-use Rattle.image.specs.Layout.{brstcntrlPlace, counterHighPlace, counterLowPlace, counterMiddlePlace, dataPlace, hostBytesPlace, hostCountPlace, identityPlace, imageSize, lastPlace, offsetPlace, pointerPlace, quietPlace, scsiBytesPlace, scsiCountPlace, scsidatPlace, scsiidPlace, scsiratePlace, selidPlace, stackBytesPlace, ticksHighPlace, ticksLowPlace, ticksMiddlePlace}
-use Rattle.image.proofs.ReadBack.{read-back}
+use Rattle.image.specs.Image.{imageOf, stateAt, IsImage}
+use Rattle.image.specs.Layout.{brstcntrlPlace, counterHighPlace, counterLowPlace, counterMiddlePlace, dataPlace, hostBytesPlace, hostCountPlace, identityPlace, imageSize, lastPlace, offsetPlace, pointerPlace, quietPlace, scsiBytesPlace, scsiCountPlace, scsidatPlace, selidPlace, stackBytesPlace, ticksHighPlace, ticksLowPlace, ticksMiddlePlace}
+use Rattle.image.proofs.ReadBack.{read-back, is-image}
 use Rattle.image.proofs.AtPlaces.{at-scsi, at-host}
 use Rattle.saved.specs.Accepted.{sameBytes, lengthRight, countsFit, unusedClear, ticksLeave, accepted}
 use Rattle.saved.specs.Tests.{Fitting}
@@ -203,3 +203,16 @@ accepted-is m b = (
   λ e. let a = accepted-acceptable m b e in (a .image, a .rest),
   λ i r. acceptable-accepted m (record { image = i; rest = r }),
 )
+
+-- WHAT A STEP LEAVES OF AN ACCEPTED IMAGE IS ACCEPTED
+pub step-accepted : (m : List ℕ) → Bytes m → accepted m ≡ true → (bytes : List ℕ) → accepted (imageOf ((step (stateAt m) bytes) .state)) ≡ true
+step-accepted m b e bytes =
+    let a = accepted-acceptable m b e in
+    let i = a .image in
+    let s : State = (step (stateAt m) bytes) .state in
+    let f : InRange s = step-in-range (stateAt m) bytes (i .range) in
+    acceptable-accepted (imageOf s)
+    (record {
+      image = is-image s f (step-bytes (stateAt m) bytes (i .range) (i .bytes) .state);
+      rest = subst AtRest (sym (read-back s f)) (step-rests (stateAt m) bytes (i .range) (a .rest));
+    })

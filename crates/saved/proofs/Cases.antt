@@ -10,19 +10,19 @@ use Rattle.image.specs.Layout.{hostBytesPlace, hostCountPlace, imageSize, point
 use Rattle.saved.specs.Accepted.{sameBytes, countsFit, unusedClear, ticksLeave, accepted}
 
 -- power reset, and it with one byte changed
-zeros : List ℕ
+unfoldable pub zeros : List ℕ
 zeros = replicate imageSize 0
 
 -- ENSELO, as an event leaves it: waiting
-asked : List ℕ
+unfoldable pub asked : List ℕ
 asked = set (set zeros scsiseqPlace 0x40) sequencerPlace 1
 
-accepts : List Bool
+unfoldable pub accepts : List Bool
 accepts = map accepted (zeros ∷ set zeros hostCountPlace 128 ∷ set (set zeros hostCountPlace 1) hostBytesPlace 7 ∷ asked ∷ [])
 
 -- a length of 202 and 204, a count of 129, a byte past the count, quiet ticks of 9, bits that are unused, and ENSELO as no event
 -- leaves it
-refuses : List Bool
+unfoldable pub refuses : List Bool
 refuses =
     map accepted
     (replicate 202 0
@@ -35,10 +35,10 @@ refuses =
     ∷ set zeros scsiseqPlace 0x40
     ∷ [])
 
-accepts-are : accepts ≡ true ∷ true ∷ true ∷ true ∷ []
+pub accepts-are : accepts ≡ true ∷ true ∷ true ∷ true ∷ []
 unfolding computes imageOf stateAt sameBytes countsFit unusedClear ticksLeave accepted zeros asked accepts
 accepts-are = refl
 
-refuses-are : refuses ≡ false ∷ false ∷ false ∷ false ∷ false ∷ false ∷ false ∷ false ∷ []
+pub refuses-are : refuses ≡ false ∷ false ∷ false ∷ false ∷ false ∷ false ∷ false ∷ false ∷ []
 unfolding computes imageOf stateAt sameBytes countsFit unusedClear ticksLeave accepted zeros refuses
 refuses-are = refl

@@ -1,24 +1,24 @@
 -- The tests on unused bits and on the bytes past the counts hold exactly of a list that is the image of the chip that it stands for.
-use Prim.Native.Nat.{ℕ, zero, suc, _+_, _*_, _-_, _/_, _%_, _^_, _≤_, _<_}
+use Prim.Native.Nat.{ℕ, zero, suc, _+_, _*_, _-_, _%_, _≤_, _<_}
 use mathlib.Core.Path.{_≡_, refl, sym, ap, _∙_}
 use mathlib.Core.Bool.{Bool, true, false, not, _&&_, _||_}
 use mathlib.Core.List.{List, [], _∷_, _++_}
 use native.Mathlib.Omega.{arith}
 use borrow.Author.Tests.{eqb-true, eq-eqb, ltb-true, lt-ltb, not-true, not-false}
-use lib.Dec.{eqb, ltb, eqb→eq}
-use lib.ListN.{length, take, drop, getD, replicate, length-take, length-drop, length-replicate, take-append-drop}
+use lib.Dec.{eqb, eqb→eq}
+use lib.ListN.{length, take, drop, getD, replicate, length-drop, take-append-drop}
 use lib.Seq.{take-add, take-all, drop-at, drop-drop, take-take, length-take-le}
 use Rattle.rules.specs.Numbers.{bit, one, byteOf, padded}
 use Rattle.rules.specs.Counter.{counterByte}
-use Rattle.rules.specs.Registers.{scsiseqOf, scsiseqByte, sxfrctl0Of, sxfrctl0Byte, sxfrctl1Of, sxfrctl1Byte, scsisigOf, scsirateOf, scsiidOf, simode0Of, simode0Byte, simode1Of, simode1Byte, dmacntrl0Of, dmacntrl0Byte, dmacntrl1Of, dmacntrl1Byte}
+use Rattle.rules.specs.Registers.{scsisigOf}
 use Rattle.rules.specs.Ranges.{Bytes}
 use Rattle.rules.specs.Seen.{phaseNumber}
-use Rattle.rules.proofs.Logic.{never, left-true, right-true}
+use Rattle.rules.proofs.Logic.{left-true, right-true}
 use Rattle.rules.proofs.Ranges.{bytes-at}
-use Rattle.laws.proofs.Lists.{elements, elements-all, drop-take, padded-length}
+use Rattle.laws.proofs.Lists.{elements-all, drop-take}
 use Rattle.laws.proofs.Bits.{one-below}
-use Rattle.laws.proofs.Tables.{below, below-at}
-use Rattle.image.specs.Image.{scsisigByte, scsirateByte, scsiidByte, statusOf, statusByte, latchesOf, latchesByte, phaseOf, sequencerByte, statusesOf, selectionOf, selectionByte, upperByte, controlByte, headOf, imageOf, linesAt, sequencerAt, stateAt, IsImage}
+use Rattle.laws.proofs.Tables.{below-at}
+use Rattle.image.specs.Image.{scsisigByte, latchesOf, latchesByte, phaseOf, headOf, imageOf, stateAt, IsImage}
 use Rattle.image.specs.Layout.{ackPlace, brstcntrlPlace, counterHighPlace, counterLowPlace, counterMiddlePlace, controlPlace, dataPlace, dmacntrl0Place, dmacntrl1Place, hostBytesPlace, hostCountPlace, identityPlace, imageSize, keptPlace, lastPlace, latchesPlace, offsetPlace, pointerPlace, quietPlace, scsiBytesPlace, scsiCountPlace, scsidatPlace, scsiidPlace, scsiratePlace, scsiseqPlace, scsisigPlace, selectionLatchesPlace, selidPlace, sequencerPlace, simode0Place, simode1Place, stackBytesPlace, statusPlace, sxfrctl0Place, sxfrctl1Place, ticksHighPlace, ticksLowPlace, ticksMiddlePlace, upperPlace}
 use Rattle.chips.proofs.FifosAsChip.{scsi-held, host-held}
 use Rattle.saved.specs.Accepted.{countsFit, accepted}
@@ -97,7 +97,11 @@ flagged-bits : (v : ℕ) → v < 256 → v ≡ flagged v
 unfolding phaseNumber
 flagged-bits v h = sym (eqb→eq (flagged v) v (below-at (λ (n : ℕ). eqb (flagged n) n) 256 tt v h))
 
--- two bits
+-- the lowest bits alone: four, two, one
+four-bits : (v : ℕ) → v < 16 → v ≡ byteOf false false false false (bit v 3) (bit v 2) (bit v 1) (bit v 0)
+four-bits v h =
+    sym (eqb→eq _ v (below-at (λ (n : ℕ). eqb (byteOf false false false false (bit n 3) (bit n 2) (bit n 1) (bit n 0)) n) 16 tt v h))
+
 two-bits : (v : ℕ) → v < 4 → v ≡ byteOf false false false false false false (bit v 1) (bit v 0)
 two-bits v h =
     sym (eqb→eq _ v (below-at (λ (n : ℕ). eqb (byteOf false false false false false false (bit n 1) (bit n 0)) n) 4 tt v h))
@@ -179,7 +183,7 @@ module _ (m : List ℕ) (b : Bytes m) (e : length m ≡ imageSize) where
         ∷ getD m pointerPlace 0
         ∷ flag-bit (getD m keptPlace 0) (ltb-true _ 2 (other 4)) i
         ∷ flagged-bits (getD m sequencerPlace 0) (at sequencerPlace) i
-        ∷ sym (eqb-true _ (getD m selectionLatchesPlace 0) (other 1)) i
+        ∷ four-bits (getD m selectionLatchesPlace 0) (ltb-true _ 16 (other 1)) i
         ∷ high-byte lt mt ht (at ticksLowPlace) (at ticksMiddlePlace) (at ticksHighPlace) i
         ∷ middle-byte lt mt ht (at ticksLowPlace) (at ticksMiddlePlace) (at ticksHighPlace) i
         ∷ low-byte lt mt ht (at ticksLowPlace) (at ticksMiddlePlace) (at ticksHighPlace) i
@@ -262,15 +266,17 @@ module _ (m : List ℕ) (i : IsImage m) where
   unfolding imageOf stateAt
   latches-again = head-at latchesPlace
 
-  selection-again : selectionByte (selectionOf (getD m selectionLatchesPlace 0)) ≡ getD m selectionLatchesPlace 0
-  unfolding imageOf stateAt
-  selection-again = head-at selectionLatchesPlace
+  selection-below : getD m selectionLatchesPlace 0 < 16
+  unfolding imageOf
+  selection-below =
+      let k = stateAt m .sequencer .latches in
+      omega (arith, head-at selectionLatchesPlace, one-below (k .seldo), one-below (k .seldi), one-below (k .selingo), one-below (k .selto))
 
   pub image-others : othersClear m ≡ true
   unfolding othersClear
   image-others =
       both-true (eq-eqb _ _ latches-again)
-      (both-true (eq-eqb _ _ selection-again)
+      (both-true (lt-ltb _ 16 selection-below)
       (both-true (lt-ltb _ 4 upper-below)
       (both-true (lt-ltb _ 2 ack-below)
       (both-true (lt-ltb _ 2 kept-below) (both-true (lt-ltb _ 32 identity-below) (lt-ltb _ 32 pointer-below))))))

@@ -1,9 +1,8 @@
 -- The tests of rest hold exactly of a chip at rest.
-use Prim.Native.Nat.{ℕ}
 use mathlib.Core.Path.{_≡_, refl, sym, _∙_}
 use mathlib.Core.Bool.{Bool, true, false, not, _&&_, _||_, cond}
 use lib.Dec.{eqb, leb}
-use borrow.Author.Tests.{eqb-true, eq-eqb, not-true}
+use borrow.Author.Tests.{eqb-true, eq-eqb}
 use Rattle.rules.specs.State.{State}
 use Rattle.rules.specs.Rest.{AtRest}
 use Rattle.rules.specs.Seen.{phaseNumber, isPhase, rstSeen, bsySeen, selSeen, ackSeen}
@@ -14,7 +13,7 @@ use Rattle.rules.specs.declared.chip.Phase.{Phase}
 use Rattle.rules.specs.declared.chip.Phase.the-variants.{Idle, Waiting, Arbitrating, Clearing, Selecting, Holding, Answering, Answered}
 use Rattle.rules.proofs.Logic.{never, left-true, right-true, cond-case}
 use Rattle.rules.proofs.Resolving.{Calm, Quieted, Sequential, rest-quieted, rest-calm, sequential-by}
-use Rattle.saved.specs.Tests.{all, calmIn, calm, settled, statusShown, quietFits, resting}
+use Rattle.saved.specs.Tests.{calmIn, calm, settled, statusShown, quietFits, resting}
 use Rattle.saved.proofs.Truth.{both-true}
 
 -- a test that allows an exception

@@ -1,10 +1,10 @@
 -- THE BITS THAT AN IMAGE USES, byte by byte of the head: docs/IMAGE.md has the same table in words.
-use Prim.Native.Nat.{ℕ, zero, suc, _+_, _-_, _^_, _≤_, _<_}
+use Prim.Native.Nat.{ℕ, zero, suc, _-_, _^_, _≤_, _<_}
 use mathlib.Core.Path.{_≡_, refl}
 use mathlib.Core.Bool.{Bool, true, false, not, _&&_, _||_}
 use mathlib.Core.List.{List, [], _∷_}
 use native.Mathlib.Omega.{arith}
-use borrow.Author.Tests.{le-leb, lt-ltb, eqb-true, eq-eqb}
+use borrow.Author.Tests.{le-leb, eqb-true}
 use lib.Bits.{bitAnd, and-zero-r}
 use lib.Dec.{T, eqb, leb, ltb}
 use lib.ListN.{getD, set, replicate}
@@ -14,8 +14,8 @@ use Rattle.rules.specs.Registers.{sxfrctl0Of, sxfrctl0Byte, sxfrctl1Of, sxfrctl
 use Rattle.rules.proofs.Computes.{computes}
 use Rattle.rules.proofs.Ranges.{bytes-at}
 use Rattle.laws.proofs.Tables.{below, below-at, each, in-range}
-use Rattle.image.specs.Image.{scsirateByte, scsiidByte, latchesOf, latchesByte, selectionOf, selectionByte, imageOf, stateAt, IsImage}
-use Rattle.image.specs.Layout.{dmacntrl0Place, dmacntrl1Place, imageSize, latchesPlace, scsiidPlace, scsiratePlace, selectionLatchesPlace, simode0Place, sxfrctl0Place, sxfrctl1Place}
+use Rattle.image.specs.Image.{scsirateByte, scsiidByte, latchesOf, latchesByte, imageOf, stateAt, IsImage}
+use Rattle.image.specs.Layout.{imageSize}
 use Rattle.saved.specs.Accepted.{sameBytes, countsFit, unusedClear, accepted}
 use Rattle.saved.specs.Tests.{registersTests, registersClear, othersTests, othersClear}
 use Rattle.saved.proofs.Truth.{all-at}
@@ -117,7 +117,7 @@ module _ (m : List ℕ) (b : Bytes m) (e : accepted m ≡ true) where
       ⨾ without (λ (v : ℕ). ltb v 32) 0xE0 tt _ (at 22) (other 6)
       ⨾ without (λ (v : ℕ). ltb v 2) 0xFE tt _ (at 23) (other 4)
       ⨾ whole 24
-      ⨾ without (λ (v : ℕ). eqb (selectionByte (selectionOf v)) v) 0xF0 tt _ (at 25) (other 1)
+      ⨾ without (λ (v : ℕ). ltb v 16) 0xF0 tt _ (at 25) (other 1)
       ⨾ whole 26
       ⨾ whole 27
       ⨾ whole 28

@@ -12,7 +12,7 @@ use Rattle.rules.specs.StepC.{conditions, canMove, canHandshake}
 use Rattle.rules.specs.StepD.{fifoConflict, pioReady}
 use Rattle.rules.specs.declared.chip.Phase.{Phase}
 use Rattle.rules.specs.declared.chip.Phase.the-variants.{Idle, Waiting, Arbitrating, Clearing, Selecting, Holding, Answering, Answered}
-use Rattle.image.specs.Image.{scsirateByte, scsiidByte, latchesOf, latchesByte, selectionOf, selectionByte, stateAt}
+use Rattle.image.specs.Image.{scsirateByte, scsiidByte, latchesOf, latchesByte, stateAt}
 use Rattle.image.specs.Layout.{ackPlace, dmacntrl0Place, dmacntrl1Place, hostBytesPlace, hostCountPlace, identityPlace, imageSize, keptPlace, latchesPlace, offsetPlace, pointerPlace, quietPlace, scsiBytesPlace, scsiCountPlace, scsiidPlace, scsiratePlace, selectionLatchesPlace, simode0Place, stackBytesPlace, sxfrctl0Place, sxfrctl1Place, upperPlace}
 use Rattle.saved.specs.Accepted.{countsFit}
 
@@ -44,11 +44,11 @@ registersTests m =
 unfoldable pub registersClear : List ℕ → Bool
 registersClear m = all (registersTests m)
 
--- the other bytes of the head that have unused bits: latches, numbers of two, one and five bits
+-- the other bytes of the head that have unused bits: latches, and what takes the lowest four, two, one or five bits
 abbrev pub othersTests : List ℕ → List Bool
 othersTests m =
     eqb (latchesByte (latchesOf (getD m latchesPlace 0))) (getD m latchesPlace 0)
-    ∷ eqb (selectionByte (selectionOf (getD m selectionLatchesPlace 0))) (getD m selectionLatchesPlace 0)
+    ∷ ltb (getD m selectionLatchesPlace 0) 16
     ∷ ltb (getD m upperPlace 0) 4
     ∷ ltb (getD m ackPlace 0) 2
     ∷ ltb (getD m keptPlace 0) 2

@@ -2,7 +2,7 @@
 ghost use mathlib.Core.Path.{_≡_};
 ghost use lib.Dec.{eqb};
 ghost use Rattle.rules.specs.Registers.{sxfrctl0Of, sxfrctl0Byte, sxfrctl1Of, sxfrctl1Byte, scsirateOf, scsiidOf, simode0Of, simode0Byte, dmacntrl0Of, dmacntrl0Byte, dmacntrl1Of, dmacntrl1Byte};
-ghost use Rattle.image.specs.Image.{scsirateByte, scsiidByte, latchesOf, latchesByte, selectionOf, selectionByte};
+ghost use Rattle.image.specs.Image.{scsirateByte, scsiidByte, latchesOf, latchesByte};
 ghost use Rattle.saved.specs.Tests.{registersClear, othersClear};
 use image::bytes::latches_byte;
 use image::bytes::latches_of;
@@ -21,7 +21,6 @@ use image::layout::SELECTION_LATCHES;
 use image::layout::SIMODE0;
 use image::layout::SXFRCTL0;
 use image::layout::SXFRCTL1;
-use image::sequencer::selection_byte;
 use registers::bytes::dmacntrl0_byte;
 use registers::bytes::dmacntrl0_of;
 use registers::bytes::dmacntrl1_byte;
@@ -32,7 +31,6 @@ use registers::bytes::sxfrctl0_byte;
 use registers::bytes::sxfrctl0_of;
 use registers::bytes::sxfrctl1_byte;
 use registers::bytes::sxfrctl1_of;
-use rules::chip::Selection;
 
 fn sxfrctl0_clear(v: u8) -> bool
     ensures { λ b. ⌜ b ≡ eqb (sxfrctl0Byte (sxfrctl0Of v)) v ⌝ }
@@ -82,18 +80,6 @@ fn latches_clear(v: u8) -> bool
     latches_byte(latches_of(v)) == v
 }
 
-fn selection_clear(v: u8) -> bool
-    ensures { λ b. ⌜ b ≡ eqb (selectionByte (selectionOf v)) v ⌝ }
-{
-    let k = Selection {
-        seldo: (v >> 3) % 2 == 1,
-        seldi: (v >> 2) % 2 == 1,
-        selingo: (v >> 1) % 2 == 1,
-        selto: (v >> 0) % 2 == 1,
-    };
-    selection_byte(k) == v
-}
-
 // Of the registers.
 pub fn registers_clear(m: &Image) -> bool
     ensures { λ b. ⌜ b ≡ registersClear (now (m .entry)) ⌝ }
@@ -111,7 +97,7 @@ pub fn others_clear(m: &Image) -> bool
     ensures { λ b. ⌜ b ≡ othersClear (now (m .entry)) ⌝ }
 {
     latches_clear(m[LATCHES])
-        & (selection_clear(m[SELECTION_LATCHES])
+        & ((m[SELECTION_LATCHES] < 16)
             & ((m[LINES_UPPER] < 4)
                 & ((m[ACK] < 2)
                     & ((m[KEPT_PARITY] < 2) & ((m[IDENTITY] < 32) & (m[POINTER] < 32))))))

@@ -3,7 +3,6 @@ ghost use mathlib.Core.Path.{_≡_};
 ghost use Rattle.saved.specs.Accepted.{countsFit, accepted};
 use crate::clear::others_clear;
 use crate::clear::registers_clear;
-use crate::past::is_bytes;
 use crate::past::past_clear;
 use crate::rest::is_resting;
 use image::layout::HOST_COUNT;
@@ -12,6 +11,7 @@ use image::layout::OFFSET;
 use image::layout::QUIET;
 use image::layout::SCSI_COUNT;
 
+pub mod bytes;
 mod calm;
 mod clear;
 mod past;
@@ -28,7 +28,7 @@ fn counts_fit(m: &Image) -> bool
 pub fn is_accepted(m: &Image) -> bool
     ensures { λ b. ⌜ b ≡ accepted (now (m .entry)) ⌝ }
 {
-    is_bytes(m);
+    bytes::known(m);
     if !counts_fit(m) {
         return false;
     }

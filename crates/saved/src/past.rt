@@ -1,9 +1,7 @@
 // "every byte past a count 0"
 ghost use mathlib.Core.Path.{_≡_};
 ghost use Prim.Native.Nat.{_≤_};
-ghost use Rattle.image.specs.Layout.{imageSize};
 ghost use lib.ListN.{length};
-ghost use Rattle.rules.specs.Ranges.{Bytes};
 ghost use Rattle.saved.specs.Tests.{Fitting, zeroBetween, pastClear};
 use datapath::copies::wide;
 use image::layout::HOST_BYTES;
@@ -34,12 +32,4 @@ pub fn past_clear(m: &Image) -> bool
     let scsi = SCSI_BYTES + wide(m[SCSI_COUNT]);
     let host = HOST_BYTES + wide(m[HOST_COUNT]);
     is_zero(m, scsi, STACK_BYTES) & is_zero(m, host, SIZE)
-}
-
-// What the type of an image tells: a read that no program needs, and that none keeps.
-pub fn is_bytes(m: &[u8])
-    requires { ⌜ length (now m) ≡ imageSize ⌝ }
-    ensures { λ _. ⌜ (length (now (m .entry)) ≡ imageSize) × Bytes (now (m .entry)) ⌝ }
-{
-    let _first = m[0];
 }

@@ -1,7 +1,6 @@
 // A chip at rest, by direct tests on its image.
 ghost use mathlib.Core.Path.{_≡_};
 ghost use mathlib.Core.Bool.{not, _||_};
-ghost use Rattle.rules.specs.Seen.{ackSeen};
 ghost use Rattle.rules.specs.StepC.{canMove};
 ghost use Rattle.rules.specs.StepD.{fifoConflict, pioReady};
 ghost use Rattle.image.specs.Image.{stateAt, registersAt, IsImage};
