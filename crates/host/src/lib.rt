@@ -6,7 +6,7 @@ use crate::refusing::refuse;
 use crate::refusing::refuse_all;
 use image::layout::SIZE;
 use saved::is_accepted;
-use saved::past::is_bytes;
+use saved::bytes::known;
 use step::run::answered;
 
 mod copies;
@@ -23,7 +23,7 @@ pub extern "C" fn rabenteig_step(image: &mut [u8], record: &[u8], answer: &mut [
     }
     let mut m = [0u8; SIZE];
     copy(image, &mut m);
-    is_bytes(&m);
+    known(&m);
     if !is_accepted(&m) {
         return refuse(answer);
     }
@@ -42,7 +42,7 @@ pub extern "C" fn rabenteig_run(image: &mut [u8], records: &[u8], answers: &mut 
     }
     let mut m = [0u8; SIZE];
     copy(image, &mut m);
-    is_bytes(&m);
+    known(&m);
     if !is_accepted(&m) {
         return refuse_all(records, answers);
     }
