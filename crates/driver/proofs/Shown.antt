@@ -20,8 +20,9 @@ use Rattle.rules.specs.declared.map.Register.{Register}
 use Rattle.rules.specs.declared.records.Event.{Event}
 use Rattle.rules.proofs.Logic.{never}
 use Rattle.rules.proofs.Packing.{padded-take}
-use Rattle.rules.proofs.Ranges.{one-fits, step-bytes}
+use Rattle.rules.proofs.Ranges.{step-bytes}
 use Rattle.rules.proofs.Reports.{step-fits}
+use Rattle.step.proofs.Shows.{answer-code}
 use Rattle.runs.specs.Comes.{says, eventBytes, unlessRefused, mayCome as recordMayCome}
 use Rattle.runs.specs.Run.{accepted, sentBy, hostRead, lowBytes}
 use Rattle.runs.specs.Cut.{readAnswer}
@@ -29,10 +30,7 @@ use Rattle.runs.proofs.ReadRun.{read-hands}
 use Rattle.driver.specs.Exchanges.{Exchange, isAnswered, handed, codeOf, isRefused, acksOf, takenOf, valueOf, offeredOf, acceptedOf, readOf, mayCome, registerRead}
 use Rattle.driver.specs.Calls.{Ranged}
 
--- the first byte holds the code above IRQ and the ACKs
-code-part : (n i a : ℕ) → i ≤ 1 → ((n * 2 + i) * 16 + a % 16) / 32 ≡ n
-code-part n i a h = omega arith
-
+-- the first byte holds the ACKs below IRQ and the code
 acks-part : (n i a : ℕ) → a ≤ 8 → ((n * 2 + i) * 16 + a % 16) % 16 ≡ a
 acks-part n i a h = omega arith
 
@@ -45,10 +43,6 @@ unfolding step stepDecoded decode
 empty-refused s = refl
 
 module _ (s : State) (bytes : List ℕ) where
-  pub answer-code : getD (answer s bytes) 0 0 / 32 ≡ numberOf ((step s bytes) .code)
-  unfolding answer answerBytes answerOf
-  answer-code = code-part (numberOf ((step s bytes) .code)) (one (irq ((step s bytes) .state))) ((step s bytes) .acks) (one-fits (irq ((step s bytes) .state)))
-
   pub answer-acks : (step s bytes) .acks ≤ 8 → getD (answer s bytes) 0 0 % 16 ≡ (step s bytes) .acks
   unfolding answer answerBytes answerOf
   answer-acks h = acks-part (numberOf ((step s bytes) .code)) (one (irq ((step s bytes) .state))) ((step s bytes) .acks) h

@@ -1,1 +1,1 @@
-pub mod Reset
+pub mod OverImages

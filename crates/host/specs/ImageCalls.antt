@@ -41,10 +41,10 @@ unfoldable pub imageCalled : List ℕ → List ℕ → List ℕ → ImageCall
 imageCalled image bytes buffer = cond (accepted image) (calledOver image bytes buffer) (refusedCall image buffer)
 
 -- what the call of x leaves is this
-pub record Left (x : ImageCall) (image buffer : List ℕ) (code : ℕ) : Type 0 where
-  pub image : image ≡ x .image
-  pub buffer : buffer ≡ x .buffer
-  pub code : code ≡ x .code
+pub record Left (x : ImageCall) (m b : List ℕ) (r : ℕ) : Type 0 where
+  pub image : m ≡ x .image
+  pub buffer : b ≡ x .buffer
+  pub code : r ≡ x .code
 
 abbrev pub IsImageCall : List ℕ → List ℕ → List ℕ → List ℕ → List ℕ → ℕ → Type 0
 IsImageCall image bytes before image' buffer code = Left (imageCalled image bytes before) image' buffer code
@@ -63,8 +63,8 @@ refusals zero = []
 refusals (suc n) = refusedAnswer ++ refusals n
 
 -- as a refused call for each record that would be stepped
-pub record IsRefusedRun (bytes before buffer : List ℕ) (count : ℕ) : Type 0 where
-  pub count : count ≡ steppedIn bytes before
+pub record IsRefusedRun (bytes before buffer : List ℕ) (r : ℕ) : Type 0 where
+  pub count : r ≡ steppedIn bytes before
   pub answers : buffer ≡ refusals (steppedIn bytes before) ++ drop (16 * steppedIn bytes before) before
 
 pub record ImageRun : Type 0 where
@@ -84,7 +84,7 @@ imageRun image bytes buffer =
     })
     (record { image = image; buffer = refusals n ++ drop (16 * n) buffer; count = n })
 
-pub record IsImageRun (image bytes before image' buffer : List ℕ) (count : ℕ) : Type 0 where
-  pub image : image' ≡ imageRun image bytes before .image
-  pub buffer : buffer ≡ imageRun image bytes before .buffer
-  pub count : count ≡ imageRun image bytes before .count
+pub record IsImageRun (m bytes before n b : List ℕ) (r : ℕ) : Type 0 where
+  pub image : n ≡ imageRun m bytes before .image
+  pub buffer : b ≡ imageRun m bytes before .buffer
+  pub count : r ≡ imageRun m bytes before .count

@@ -1,6 +1,6 @@
 // The exported functions for a host program: the chip is handed over as the bytes of its image.
 ghost use Rattle.host.specs.ImageCalls.{IsImageCall, IsImageRun};
-use crate::copies::copy;
+use saved::copies::copy;
 use crate::over::step_over;
 use crate::refusing::refuse;
 use crate::refusing::refuse_all;
@@ -9,14 +9,13 @@ use saved::is_accepted;
 use saved::bytes::known;
 use step::run::answered;
 
-mod copies;
 mod over;
 mod refusing;
 
 // One record: its code; the new image in place of the old. A slice is no array, so the image is stepped in a copy.
 #[no_mangle]
-pub extern "C" fn rabenteig_step(image: &mut [u8], record: &[u8], answer: &mut [u8]) -> u8
-    ensures { λ r. ⌜ IsImageCall (now (image .entry)) (now (record .entry)) (now (answer .entry)) (now (image .exit)) (now (answer .exit)) r ⌝ }
+pub extern "C" fn rabenteig_step(image: &mut [u8], bytes: &[u8], answer: &mut [u8]) -> u8
+    ensures { λ r. ⌜ IsImageCall (now (image .entry)) (now (bytes .entry)) (now (answer .entry)) (now (image .exit)) (now (answer .exit)) r ⌝ }
 {
     if image.len() != SIZE {
         return refuse(answer);
@@ -27,7 +26,7 @@ pub extern "C" fn rabenteig_step(image: &mut [u8], record: &[u8], answer: &mut [
     if !is_accepted(&m) {
         return refuse(answer);
     }
-    let code = step_over(&mut m, record, answer);
+    let code = step_over(&mut m, bytes, answer);
     copy(&m, image);
     code
 }

@@ -37,8 +37,8 @@ pub record IsRecordAnswered (m bytes before : List ℕ) (i : ℕ) (n buffer : Li
   pub answers : buffer ≡ (take (16 * i) before ++ answer (stateAt m) (recordAt i bytes)) ++ drop (16 * i + 16) before
 
 -- the single steps one after another on an image: the image they leave, how many, and their answers with the rest of the buffer as it was
-pub record IsRunOver (m bytes before n buffer : List ℕ) (count : ℕ) : Type 0 where
-  pub count : count ≡ steppedIn bytes before
+pub record IsRunOver (m bytes before n buffer : List ℕ) (r : ℕ) : Type 0 where
+  pub count : r ≡ steppedIn bytes before
   pub image : n ≡ imageOf (after (stateAt m) (recordsOf (steppedIn bytes before) bytes))
   pub answers : buffer ≡ joined (answers (stateAt m) (recordsOf (steppedIn bytes before) bytes)) ++ drop (16 * steppedIn bytes before) before
 

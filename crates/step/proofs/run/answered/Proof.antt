@@ -32,17 +32,12 @@ Inv-loop m₀ records answers₀ n spare₀ i₀ m buffer spare i =
 abbrev μ-loop : tie.MeasureT-loop
 μ-loop m₀ records answers₀ n spare₀ i₀ m buffer spare i = n - i
 
-store-requires : tie.Need-store-requires Inv-loop μ-loop
-store-requires c κs =
-    let tidied = c .before in
-    let start = tidied .before .before .before .before in
-    tidy-of (view (start .args .c)) (tidied .tidied .result) (tidied .tidied .ensures .range) (tidied .tidied .ensures .packed)
-
 loop-holds : tie.Need-loop-holds Inv-loop μ-loop
 loop-holds c =
-    let sound = c .store .ensures .sound in (
+    let start = c .before .before .before in
+    let sound = start .pre in (
       search needs,
-      c .before .before .before .smaller .ensures,
+      c .smaller .ensures,
       omega arith,
       omega arith,
       refl,
@@ -56,7 +51,7 @@ loop-holds c =
 record-answered-requires : tie.Need-record-answered-requires Inv-loop μ-loop
 record-answered-requires c κs =
     let l = c .before .before .before .before .loop in
-    let a = c .before .before .before .before .before .before .before .before .before .before .before .args in (
+    let a = c .before .before .before .before .before .before .before .before .args in (
       image-reached _ (l .inv .7 .range) (l .inv .7 .bytes) (a .records .now) (a .answers .now) (l .i) (l .inv .8) (l .inv .9),
       (omega arith, omega arith),
     )
@@ -66,7 +61,7 @@ loop-again c =
     let record-answered = c .before .before .record-answered in
     let t = c .before .before .before .before .before .before .loop-test .taken in
     let l = c .before .before .before .before .before .before .before .loop in
-    let a = c .before .before .before .before .before .before .before .before .before .before .before .before .before .before .args in
+    let a = c .before .before .before .before .before .before .before .before .before .before .before .args in
     let same = record-answered .kept .1 .1 .1 .0 in (
       omega (arith, l .inv .0, t),
       l .inv .1,
@@ -80,51 +75,32 @@ loop-again c =
       answers-more _ (l .inv .7 .range) (l .inv .7 .bytes) (a .records .now) (a .answers .now) (l .i) (l .inv .8) (l .inv .9) (record-answered .ensures),
     )
 
-load-requires : tie.Need-load-requires Inv-loop μ-loop
-load-requires c κs =
-    let l = c .before .before .loop in
-    let a = c .before .before .before .before .before .before .before .before .before .args in
-    image-reached _ (l .inv .7 .range) (l .inv .7 .bytes) (a .records .now) (a .answers .now) (l .i) (l .inv .8) (l .inv .9)
-
 returns : tie.Need-returns Inv-loop μ-loop
 returns c =
-    let l = c .before .before .before .loop in
-    let store = c .before .before .before .before in
-    let tidied = store .before .before in
-    let smaller = tidied .before in
+    let l = c .before .loop in
+    let smaller = c .before .before in
     let a = smaller .before .before .before .args in
     let e : l .i ≡ smaller .smaller .result = omega arith in
     let k : l .i ≡ steppedIn (a .records .now) (a .answers .now) = e ∙ l .inv .1 in
-    let tidy = tidied .tidied .ensures in
-    let w : view (tidied .tidied .result) ≡ view (a .c) = view-of (view (a .c)) (tidied .tidied .result) (tidy .range) (tidy .packed) in
-    let v = ap stateAt (store .store .ensures .packed ∙ ap imageOf w) ∙ read-back (view (a .c)) (tidy .range) in
+    let s = stateAt (a .m .now) in
     record {
       count = l .inv .1;
-      chip =
-          c .load .ensures
-          ∙ ap chipOf (state-reached _ (l .inv .7 .range) (l .inv .7 .bytes) (a .records .now) (a .answers .now) (l .i) (l .inv .8) (l .inv .9))
-          ∙ ap (λ (s : State). chipOf (after s (recordsOf (l .i) (a .records .now)))) v
-          ∙ ap (λ (j : ℕ). chipOf (after (view (a .c)) (recordsOf j (a .records .now)))) k;
-      answers =
-          l .inv .9 ∙ ap (λ (s : State). joined (answers s (recordsOf (l .i) (a .records .now))) ++ drop (16 * l .i) (a .answers .now)) v
-          ∙ ap (λ (j : ℕ). joined (answers (view (a .c)) (recordsOf j (a .records .now))) ++ drop (16 * j) (a .answers .now)) k;
+      image = l .inv .8 ∙ ap (λ (j : ℕ). imageOf (after s (recordsOf j (a .records .now)))) k;
+      answers = l .inv .9 ∙ ap (λ (j : ℕ). joined (answers s (recordsOf j (a .records .now))) ++ drop (16 * j) (a .answers .now)) k;
     }
 
-pub run-spec : {M : Type 1} → statement M
-run-spec =
+pub answered-spec : {M : Type 1} → statement M
+answered-spec =
     tie.close
     (tie.spec
     Inv-loop
     μ-loop
     (λ c. search needs)
     (λ c κs. search needs)
-    (λ c κs. search needs)
-    store-requires
     loop-holds
     record-answered-requires
     (λ c. omega arith)
     (λ c. omega arith)
     loop-again
-    load-requires
     (λ c. omega arith)
     returns)

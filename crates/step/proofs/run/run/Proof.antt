@@ -1,4 +1,4 @@
--- The loop's invariant: the image and the answers are those of the records passed.
+-- The run on an image, between a chip that is laid out and one that is taken up.
 use mathlib.Core.Path.{_≡_, refl, ap, sym, _∙_}
 use mathlib.Core.List.{List, _++_}
 use Prim.Native.Nat.{ℕ, _+_, _-_, _*_, _≤_, _<_, _^_}
@@ -16,115 +16,43 @@ use Rattle.step.proofs.Running.{image-reached, state-reached, image-nex
 use Rattle.step.proofs.run.run.Statement.{statement}
 use Rattle.step.proofs.run.run.Tie as tie
 
-abbrev Inv-loop : tie.InvT-loop
-Inv-loop records answers₀ n m₀ spare₀ i₀ buffer m spare i =
-    (i ≤ n)
-    × (n ≡ steppedIn records answers₀)
-    × (4 * n < length records + 4)
-    × (16 * n ≤ length buffer)
-    × (length buffer ≡ length answers₀)
-    × (length records < 2 ^ 63)
-    × (length answers₀ < 2 ^ 63)
-    × IsImage m₀
-    × (m ≡ imageOf (after (stateAt m₀) (recordsOf i records)))
-    × (buffer ≡ joined (answers (stateAt m₀) (recordsOf i records)) ++ drop (16 * i) answers₀)
-
-abbrev μ-loop : tie.MeasureT-loop
-μ-loop records answers₀ n m₀ spare₀ i₀ buffer m spare i = n - i
-
-store-requires : tie.Need-store-requires Inv-loop μ-loop
+store-requires : tie.Need-store-requires
 store-requires c κs =
     let tidied = c .before in
-    let start = tidied .before .before .before .before in
+    let start = tidied .before .before .before in
     tidy-of (view (start .args .c)) (tidied .tidied .result) (tidied .tidied .ensures .range) (tidied .tidied .ensures .packed)
 
-loop-holds : tie.Need-loop-holds Inv-loop μ-loop
-loop-holds c =
-    let sound = c .store .ensures .sound in (
-      search needs,
-      c .before .before .before .smaller .ensures,
-      omega arith,
-      omega arith,
-      refl,
-      search needs,
-      search needs,
-      sound,
-      sound .packed,
-      refl,
-    )
+answered-requires : tie.Need-answered-requires
+answered-requires c κs = c .before .before .store .ensures .sound
 
-record-answered-requires : tie.Need-record-answered-requires Inv-loop μ-loop
-record-answered-requires c κs =
-    let l = c .before .before .before .before .loop in
-    let a = c .before .before .before .before .before .before .before .before .before .before .before .args in (
-      image-reached _ (l .inv .7 .range) (l .inv .7 .bytes) (a .records .now) (a .answers .now) (l .i) (l .inv .8) (l .inv .9),
-      (omega arith, omega arith),
-    )
-
-loop-again : tie.Need-loop-again Inv-loop μ-loop
-loop-again c =
-    let record-answered = c .before .before .record-answered in
-    let t = c .before .before .before .before .before .before .loop-test .taken in
-    let l = c .before .before .before .before .before .before .before .loop in
-    let a = c .before .before .before .before .before .before .before .before .before .before .before .before .before .before .args in
-    let same = record-answered .kept .1 .1 .1 .0 in (
-      omega (arith, l .inv .0, t),
-      l .inv .1,
-      l .inv .2,
-      omega (arith, l .inv .3, same),
-      omega (arith, l .inv .4, same),
-      l .inv .5,
-      l .inv .6,
-      l .inv .7,
-      image-next _ (l .inv .7 .range) (l .inv .7 .bytes) (a .records .now) (a .answers .now) (l .i) (l .inv .8) (l .inv .9) (record-answered .ensures),
-      answers-more _ (l .inv .7 .range) (l .inv .7 .bytes) (a .records .now) (a .answers .now) (l .i) (l .inv .8) (l .inv .9) (record-answered .ensures),
-    )
-
-load-requires : tie.Need-load-requires Inv-loop μ-loop
+load-requires : tie.Need-load-requires
 load-requires c κs =
-    let l = c .before .before .loop in
-    let a = c .before .before .before .before .before .before .before .before .before .args in
-    image-reached _ (l .inv .7 .range) (l .inv .7 .bytes) (a .records .now) (a .answers .now) (l .i) (l .inv .8) (l .inv .9)
+    let run = c .before .before .before in
+    let g = run .before .before .before .store .ensures .sound in
+    let a = run .before .before .before .before .before .before .before .before .args in
+    image-reached _ (g .range) (g .bytes) (a .records .now) (a .answers .now) (steppedIn (a .records .now) (a .answers .now)) (run .answered .ensures .image) (run .answered .ensures .answers)
 
-returns : tie.Need-returns Inv-loop μ-loop
+returns : tie.Need-returns
 returns c =
-    let l = c .before .before .before .loop in
-    let store = c .before .before .before .before in
+    let run = c .before .before .before .before in
+    let store = run .before .before .before in
     let tidied = store .before .before in
-    let smaller = tidied .before in
-    let a = smaller .before .before .before .args in
-    let e : l .i ≡ smaller .smaller .result = omega arith in
-    let k : l .i ≡ steppedIn (a .records .now) (a .answers .now) = e ∙ l .inv .1 in
+    let a = run .before .before .before .before .before .before .before .before .args in
+    let bytes = a .records .now in
+    let before = a .answers .now in
+    let n = steppedIn bytes before in
+    let g = store .store .ensures .sound in
     let tidy = tidied .tidied .ensures in
     let w : view (tidied .tidied .result) ≡ view (a .c) = view-of (view (a .c)) (tidied .tidied .result) (tidy .range) (tidy .packed) in
     let v = ap stateAt (store .store .ensures .packed ∙ ap imageOf w) ∙ read-back (view (a .c)) (tidy .range) in
+    let r = run .answered .ensures in
     record {
-      count = l .inv .1;
+      count = r .count;
       chip =
-          c .load .ensures
-          ∙ ap chipOf (state-reached _ (l .inv .7 .range) (l .inv .7 .bytes) (a .records .now) (a .answers .now) (l .i) (l .inv .8) (l .inv .9))
-          ∙ ap (λ (s : State). chipOf (after s (recordsOf (l .i) (a .records .now)))) v
-          ∙ ap (λ (j : ℕ). chipOf (after (view (a .c)) (recordsOf j (a .records .now)))) k;
-      answers =
-          l .inv .9 ∙ ap (λ (s : State). joined (answers s (recordsOf (l .i) (a .records .now))) ++ drop (16 * l .i) (a .answers .now)) v
-          ∙ ap (λ (j : ℕ). joined (answers (view (a .c)) (recordsOf j (a .records .now))) ++ drop (16 * j) (a .answers .now)) k;
+          c .load .ensures ∙ ap chipOf (state-reached _ (g .range) (g .bytes) bytes before n (r .image) (r .answers))
+          ∙ ap (λ (s : State). chipOf (after s (recordsOf n bytes))) v;
+      answers = r .answers ∙ ap (λ (s : State). joined (answers s (recordsOf n bytes)) ++ drop (16 * n) before) v;
     }
 
 pub run-spec : {M : Type 1} → statement M
-run-spec =
-    tie.close
-    (tie.spec
-    Inv-loop
-    μ-loop
-    (λ c. search needs)
-    (λ c κs. search needs)
-    (λ c κs. search needs)
-    store-requires
-    loop-holds
-    record-answered-requires
-    (λ c. omega arith)
-    (λ c. omega arith)
-    loop-again
-    load-requires
-    (λ c. omega arith)
-    returns)
+run-spec = tie.close (tie.spec (λ c κs. search needs) store-requires answered-requires load-requires (λ c. search needs) returns)
