@@ -1,24 +1,21 @@
 -- A chip in a lent slice: the steps of the writing and of the reading.
 use Prim.Native.Nat.{ℕ, _+_, _≤_}
-use mathlib.Core.Path.{_≡_, refl, sym, ap, _∙_}
-use mathlib.Core.Bool.{Bool, true, false, cond}
+use mathlib.Core.Path.{_≡_, sym, ap, _∙_}
+use mathlib.Core.Bool.{Bool, true, false, not}
 use mathlib.Core.List.{List, _++_, append-nil}
 use native.Mathlib.Omega.{arith}
-use borrow.Author.Tests.{eq-eqb, ne-eqb}
-use lib.Dec.{eqb}
-use lib.ListN.{length, take, drop, drop-of-length-le}
-use lib.Seq.{paste, take-all}
-use Rattle.rules.specs.State.{State}
+use borrow.Author.Tests.{eq-eqb, ne-eqb, not-true, not-false}
+use lib.ListN.{length, drop, drop-of-length-le}
+use lib.Seq.{take-all}
 use Rattle.rules.specs.Chips.{view, chipOf}
-use Rattle.rules.specs.Ranges.{InRange, Bytes}
 use Rattle.rules.specs.declared.chip.Chip.{Chip}
 use Rattle.rules.proofs.Packing.{read-back}
-use Rattle.image.specs.Image.{imageOf, stateAt, IsImage}
+use Rattle.image.specs.Image.{imageOf, stateAt}
 use Rattle.image.specs.Layout.{imageSize}
 use Rattle.image.proofs.Pastes.{Pasted, ended}
 use Rattle.chips.specs.HeadRuns.{Stored}
 use Rattle.step.specs.Entry.{Entered}
-use Rattle.saved.specs.Accepted.{accepted, lengthRight}
+use Rattle.saved.specs.Accepted.{accepted}
 use Rattle.saved.specs.Lent.{chipWritten, chipRead, acceptedChip, refusedChip, IsWritten}
 use Rattle.saved.specs.declared.slices.Loaded.{Loaded}
 
@@ -53,6 +50,14 @@ is-refused m e h = rw h e
 pub is-read : (m : List ℕ) {c : Chip} → c ≡ chipOf (stateAt m) → accepted m ≡ true → acceptedChip c ≡ chipRead m
 unfolding chipRead
 is-read m e h = rw h (ap acceptedChip e)
+
+-- what the test of a copy tells of the slice
+module _ {m image : List ℕ} {r : Bool} (e : m ≡ image) (t : r ≡ accepted m) where
+  pub copy-refused : not r ≡ true → accepted image ≡ false
+  copy-refused f = ap accepted (sym e) ∙ sym t ∙ not-true r f
+
+  pub copy-accepted : not r ≡ false → accepted image ≡ true
+  copy-accepted f = ap accepted (sym e) ∙ sym t ∙ not-false r f
 
 -- another length is not accepted
 pub length-refused : (m : List ℕ) → (length m ≡ imageSize → ⊥) → accepted m ≡ false

@@ -1,6 +1,8 @@
+use mathlib.Core.Path.{sym, _∙_}
 use borrow.Author.Needs.{needs}
 use Rattle.rules.specs.Chips.{view}
 use Rattle.step.proofs.Parts.{tidy-of}
+use Rattle.saved.proofs.Acceptance.{acceptable-length}
 use Rattle.saved.proofs.Lent.{other-length, right-length}
 use Rattle.saved.proofs.slices.write_chip.Statement.{statement}
 use Rattle.saved.proofs.slices.write_chip.Tie as tie
@@ -15,6 +17,14 @@ store-requires c κs =
     let tidied = c .before in
     let start = tidied .before .before .before in
     tidy-of (view (start .args .c)) (tidied .tidied .result) (tidied .tidied .ensures .range) (tidied .tidied .ensures .packed)
+
+slice-aggregate-copy : tie.Need-slice-aggregate-copy
+slice-aggregate-copy c = sym (acceptable-length _ (c .before .store .ensures .sound))
+
+copy-requires : tie.Need-copy-requires
+copy-requires c κs =
+    let store = c .before .before in
+    acceptable-length _ (store .store .ensures .sound) ∙ sym (store .before .before .before .if1 .left)
 
 returns-2 : tie.Need-returns-2
 returns-2 c =
@@ -32,7 +42,7 @@ write-chip-spec =
     returns
     (λ c κs. search needs)
     store-requires
-    (λ c. search needs)
-    (λ c κs. search needs)
+    slice-aggregate-copy
+    copy-requires
     (λ c. search needs)
     returns-2)
