@@ -5,8 +5,8 @@ use mathlib.Core.Bool.{true}
 use mathlib.Core.List.{List, [], _∷_}
 use borrow.Author.Tests.{eq-eqb}
 use lib.ListN.{length, set}
-use Rattle.rules.specs.State.{State, powerReset}
-use Rattle.rules.specs.Chips.{view, chipOf}
+use Rattle.rules.specs.State.{powerReset}
+use Rattle.rules.specs.Chips.{view, chipOf, pathView, pathOf, registersView, stackView, sequencerView}
 use Rattle.rules.specs.Ranges.{InRange, InBytes, Bytes, Tidy}
 use Rattle.rules.specs.Rest.{AtRest}
 use Rattle.rules.specs.Step.{after}
@@ -17,11 +17,12 @@ use Rattle.rules.proofs.Packing.{read-back}
 use Rattle.rules.proofs.Ranges.{bytes-zeros, bytes-computed, always-in-range, always-in-bytes}
 use Rattle.rules.proofs.Still.{always-at-rest}
 use Rattle.image.specs.Image.{imageOf, stateAt}
-use Rattle.image.specs.Layout.{dmacntrl0Place, hostBytesPlace, hostCountPlace, imageSize}
+use Rattle.image.specs.Layout.{dmacntrl0Place, hostBytesPlace, hostCountPlace, imageSize, scsiseqPlace}
 use Rattle.image.proofs.ReadBack as image
+use Rattle.step.specs.Entry.{Entered}
 use Rattle.step.proofs.Parts.{tidy-of, view-of}
 use Rattle.saved.specs.Accepted.{sameBytes, countsFit, unusedClear, ticksLeave, accepted}
-use Rattle.saved.specs.Lent.{chipWritten, chipRead, acceptedChip}
+use Rattle.saved.specs.Lent.{chipWritten, chipRead, acceptedChip, refusedChip}
 use Rattle.saved.specs.declared.slices.Loaded.{Loaded}
 use Rattle.saved.proofs.Acceptance.{accepted-acceptable, acceptable-accepted}
 use Rattle.saved.proofs.Cases.{zeros}
@@ -40,9 +41,17 @@ module _ (c : Chip) (i : InRange (view c)) (b : InBytes (view c)) (r : AtRest (v
       let e : chipOf (view c) ≡ chipOf (stateAt (imageOf (view c))) = ap chipOf (sym (image.read-back (view c) i)) in
       rw (eq-eqb (length out) imageSize h) (sym (is-read (imageOf (view c)) e written-accepted))
 
+-- `tidied` returns that chip, and its image is the one that is written
+module _ (c tidied : Chip) (e : Entered c tidied) where
+  pub tidied-image : imageOf (view tidied) ≡ imageOf (view c)
+  tidied-image = ap imageOf (view-of (view c) tidied (e .range) (e .packed))
+
+  pub tidied-read : InBytes (view c) → AtRest (view c) → (out : List ℕ) → length out ≡ imageSize → chipRead (chipWritten c out) ≡ acceptedChip tidied
+  tidied-read b r out h = written-read c (e .range) b r out h ∙ ap acceptedChip (sym (e .packed))
+
 -- a chip in its one form is read as it was
 pub tidy-read : (c : Chip) → Tidy c → InBytes (view c) → AtRest (view c) → (out : List ℕ) → length out ≡ imageSize → chipRead (chipWritten c out) ≡ acceptedChip c
-tidy-read c t b r out h = written-read c (t .range) b r out h ∙ ap acceptedChip (sym (t .packed))
+tidy-read c t = tidied-read c c (record { packed = t .packed; range = t .range })
 
 -- WHAT WAS READ IS WRITTEN AS THE SAME BYTES
 pub read-written : (m : List ℕ) → Bytes m → accepted m ≡ true → (out : List ℕ) → length out ≡ imageSize → chipWritten (chipRead m .chip) out ≡ m
@@ -142,3 +151,11 @@ again-same : reached resetAgain ≡ reached []
 again-same =
     same-chip (reached resetAgain) (reached []) (reached-tidy resetAgain) (reached-tidy [])
     (ap imageOf (reached-view resetAgain) ∙ again-image ∙ sym (ap imageOf (reached-view []) ∙ reset-image))
+
+-- a chip made by hand, not at rest: ENSELO as no event leaves it. What is written of it is refused
+unfoldable pub unrested : Chip
+unrested = chipOf (stateAt (set zeros scsiseqPlace 0x40))
+
+unrested-refused : chipRead (chipWritten unrested zeros) ≡ refusedChip
+unfolding computes view chipOf pathView pathOf registersView stackView sequencerView imageOf stateAt sameBytes countsFit unusedClear ticksLeave accepted zeros chipWritten chipRead unrested
+unrested-refused = refl

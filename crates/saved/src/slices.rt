@@ -9,7 +9,7 @@ use rules::chip::Chip;
 use step::reset::power_reset;
 use step::reset::tidied;
 
-// What a read returns: a chip that is not accepted is that of power reset.
+// What a read returns; where the image is refused, the chip of power reset stands beside the refusal.
 pub struct Loaded {
     pub accepted: bool,
     pub chip: Chip,
