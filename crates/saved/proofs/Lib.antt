@@ -6,3 +6,5 @@ pub mod Zeros
 pub mod Settled
 pub mod UnusedBits
 pub mod Cases
+pub mod Lent
+pub mod OneImage

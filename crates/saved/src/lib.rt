@@ -14,8 +14,10 @@ use image::layout::SCSI_COUNT;
 pub mod bytes;
 mod calm;
 mod clear;
+pub mod copies;
 mod past;
 mod rest;
+pub mod slices;
 
 // "FIFO counts at most 128 and 8, offset and quiet count at most 8"
 fn counts_fit(m: &Image) -> bool
