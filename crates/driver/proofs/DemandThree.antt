@@ -1,4 +1,4 @@
--- DEMAND 3 of every trace, and so of the calls of step::step, step::run::run and host::rabenteig_run.
+-- DEMAND 3 of every trace, and so of the calls of step::step, step::run::run, host::rabenteig_step and host::rabenteig_run.
 use mathlib.Core.Path.{_≡_, refl, ap, sym, _∙_, subst}
 use mathlib.Core.Bool.{Bool, true, false}
 use mathlib.Core.List.{List, [], _++_}
@@ -7,6 +7,7 @@ use lib.ListN.{length, take, drop}
 use Rattle.rules.specs.State.{State, powerReset}
 use Rattle.rules.specs.Chips.{view}
 use Rattle.rules.specs.Step.{after, answers}
+use Rattle.rules.specs.Ranges.{Bytes}
 use Rattle.rules.specs.declared.chip.Chip.{Chip}
 use Rattle.rules.proofs.Ranges.{power-reset-fits, power-reset-bytes}
 use Rattle.runs.specs.Comes.{allCome, along}
@@ -15,15 +16,20 @@ use Rattle.runs.proofs.Along.{after-append}
 use Rattle.runs.proofs.Stages.{held-at-start}
 use Rattle.runs.proofs.WriteRun.{write-run}
 use Rattle.runs.proofs.ReadRun.{read-run}
+use Rattle.image.specs.Image.{stateAt}
+use Rattle.saved.specs.Accepted.{accepted}
+use Rattle.saved.proofs.Acceptance.{accepted-acceptable}
 use Rattle.step.specs.declared.Ran.{Ran}
 use Rattle.step.specs.Runs.{recordsOf, steppedIn, joined, IsRun}
-use Rattle.host.specs.FromReset.{IsRunFromReset}
+use Rattle.host.specs.ImageCalls.{imageRun, IsImageRun}
 use Rattle.driver.specs.Exchanges.{Exchange, handedOver, takenOf, acceptedOf, readOf, mayCome, allOver, over}
 use Rattle.driver.specs.Driving.{exchangesOf as roundExchanges, allRounds}
 use Rattle.driver.specs.DemandThree.{WriteMoment, ReadMoment, DemandThree, stateAfter}
 use Rattle.driver.specs.Calls.{Ranged, Trace, Call, Calls, exchangesOf, exchangesIn}
+use Rattle.driver.specs.ImageChains.{HostCall, ImageChain, exchangesOver}
 use Rattle.driver.proofs.Traces.{handed-append, trace-append, ranged-after, accepted-along, reads-along, comes-along, taken-along}
 use Rattle.driver.proofs.Steps.{calls-trace, run-trace}
+use Rattle.driver.proofs.Images.{image-ranged, chain-trace}
 use Rattle.driver.proofs.Rounds.{cut-of-trace, chain-of-trace}
 use Rattle.driver.proofs.Restarts.{starts-by-records, blind-drives, blind-sends-only-taken}
 
@@ -93,9 +99,18 @@ demand-three-of-run c bytes before buffer r i h =
 pub reset-ranged : Ranged powerReset
 reset-ranged = record { range = power-reset-fits; bytes = power-reset-bytes }
 
--- AND OF THE EXPORTED RUN, from power reset
-pub demand-three-of-host : (bytes before buffer : List ℕ) (count : ℕ) → IsRunFromReset bytes before buffer count → DemandThree powerReset (exchangesIn (steppedIn bytes before) bytes buffer)
-demand-three-of-host bytes before buffer count h =
+-- OF EVERY CHAIN OF CALLS of the exported step from an accepted image, each handed the image that the one before left
+pub demand-three-of-images : (image : List ℕ) (ks : List HostCall) → Bytes image → accepted image ≡ true → ImageChain image ks → DemandThree (stateAt image) (exchangesOver ks)
+demand-three-of-images image ks b e h =
+    let a = accepted-acceptable image b e in
+    demand-three (stateAt image) (exchangesOver ks) (image-ranged image a) (chain-trace image ks a h)
+
+-- AND OF THE EXPORTED RUN, from an accepted image
+pub demand-three-of-host : (image bytes before left buffer : List ℕ) (count : ℕ) → Bytes image → accepted image ≡ true → IsImageRun image bytes before left buffer count → DemandThree (stateAt image) (exchangesIn (steppedIn bytes before) bytes buffer)
+unfolding imageRun
+demand-three-of-host image bytes before left buffer count b e h =
     let n = steppedIn bytes before in
-    demand-three powerReset (exchangesIn n bytes buffer) reset-ranged
-    (rw (h .answers) (run-trace powerReset n bytes (drop (16 * n) before) reset-ranged))
+    let s = stateAt image in
+    let i = image-ranged image (accepted-acceptable image b e) in
+    let q : buffer ≡ joined (answers s (recordsOf n bytes)) ++ drop (16 * n) before = h .buffer ∙ rw e in
+    demand-three s (exchangesIn n bytes buffer) i (rw q (run-trace s n bytes (drop (16 * n) before) i))
