@@ -13,7 +13,7 @@ use Rattle.rules.proofs.Logic.{never}
 use Rattle.image.specs.Image.{imageOf, stateAt}
 use Rattle.image.proofs.ReadBack.{read-back}
 use Rattle.saved.specs.Accepted.{sameBytes}
-use Rattle.saved.proofs.Truth.{same-true}
+use Rattle.saved.proofs.Truth.{same-true, equal-same}
 use Rattle.saved.proofs.Acceptance.{Acceptable, acceptable-accepted, step-acceptable}
 use Rattle.host.specs.ImageCalls.{Left, ImageCall, calledOver, imageCalled}
 use Rattle.driver.specs.Exchanges.{Exchange, isAnswered, handed, handedOver, codeOf}
@@ -170,3 +170,15 @@ first-begins k (next ∷ more) h =
 pub chains-are : (ks : List HostCall) → AllMade ks → AllChains (chainsOf ks)
 chains-are [] h = tt
 chains-are (k ∷ more) h = are-chains (k .image) (chainsOf (k ∷ more)) (first-begins k more h)
+
+-- and calls that are a chain fall into one
+abbrev pub inOne : List HostCall → List (List HostCall)
+inOne [] = []
+inOne (k ∷ more) = (k ∷ more) ∷ []
+
+pub chain-is-one : (image : List ℕ) (ks : List HostCall) → ImageChain image ks → chainsOf ks ≡ inOne ks
+chain-is-one image [] h = refl
+chain-is-one image (k ∷ []) h = refl
+chain-is-one image (k ∷ next ∷ more) h =
+    let e : sameBytes (next .image) (k .left) ≡ true = equal-same (next .image) (k .left) (h .1 .1 .0) in
+    rw (e, chain-is-one (k .left) (next ∷ more) (h .1 .1))

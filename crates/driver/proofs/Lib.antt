@@ -6,3 +6,4 @@ pub mod Rounds
 pub mod Restarts
 pub mod DemandThree
 pub mod Example
+pub mod ImageExample
