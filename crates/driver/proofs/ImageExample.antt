@@ -98,7 +98,8 @@ made-append (k ∷ a) b h q = (h .0, made-append a b (h .1) q)
 pub older-made : AllMade older
 unfolding latest again older
 older-made =
-    made-append latest again (chain-made zeros latest (calls-chain zeros (begun ++ asking))) (chain-made saved again (calls-chain saved asking))
+    made-append latest again (chain-made zeros latest (calls-chain zeros (begun ++ asking)))
+    (chain-made saved again (calls-chain saved asking))
 
 -- but they fall into two chains, and are none
 pub older-falls : chainsOf older ≡ latest ∷ again ∷ []
@@ -177,7 +178,8 @@ five-run = record { image = refl; buffer = refl; count = refl }
 
 pub five-claimed : DemandThree (stateAt zeros) (exchangesIn 5 (joined (begun ++ asking)) (fiveRun .buffer))
 five-claimed =
-    demand-three-of-host zeros (joined (begun ++ asking)) (replicate 80 0) (fiveRun .image) (fiveRun .buffer) (fiveRun .count) zeros-bytes zeros-accepted five-run
+    demand-three-of-host zeros (joined (begun ++ asking)) (replicate 80 0) (fiveRun .image) (fiveRun .buffer) (fiveRun .count)
+    zeros-bytes zeros-accepted five-run
 
 -- it leaves the image that the single calls leave
 pub five-takes : over takenOf (exchangesIn 5 (joined (begun ++ asking)) (fiveRun .buffer)) ≡ 0x41 ∷ []

@@ -1,7 +1,7 @@
 -- Calls over images are traces of the definition: the images stand for its states, and the buffers hold its answers.
 use mathlib.Core.Path.{_≡_, refl, ap, sym, subst, _∙_}
-use mathlib.Core.Bool.{Bool, true, false, cond}
-use mathlib.Core.List.{List, [], _∷_, _++_}
+use mathlib.Core.Bool.{Bool, true, false}
+use mathlib.Core.List.{List, [], _∷_}
 use Prim.Native.Nat.{ℕ}
 use lib.Dec.{eqb}
 use lib.ListN.{length}
@@ -18,7 +18,7 @@ use Rattle.saved.proofs.Acceptance.{Acceptable, acceptable-accepted, step-accep
 use Rattle.host.specs.ImageCalls.{Left, ImageCall, calledOver, imageCalled}
 use Rattle.driver.specs.Exchanges.{Exchange, isAnswered, handed, handedOver, codeOf}
 use Rattle.driver.specs.Calls.{Ranged, Trace}
-use Rattle.driver.specs.ImageChains.{HostCall, IsMade, ImageChain, lastImage, exchangeOver, exchangesOver, AllMade, isLatest, put, chainsOf, IsChain, AllChains, allCalls}
+use Rattle.driver.specs.ImageChains.{HostCall, IsMade, ImageChain, lastImage, exchangeOver, exchangesOver, AllMade, isLatest, put, chainsOf, AllChains, allCalls}
 use Rattle.driver.proofs.Shown.{empty-refused, code-shown}
 use Rattle.driver.proofs.Traces.{ranged-step}
 use Rattle.driver.proofs.Steps.{answer-size}
@@ -26,7 +26,7 @@ use Rattle.driver.proofs.Steps.{answer-size}
 pub image-ranged : (m : List ℕ) → Acceptable m → Ranged (stateAt m)
 image-ranged m a = record { range = a .image .range; bytes = a .image .bytes }
 
--- what one call is to a driver: an answer of the state that the image stands for, the image of the next, and the code that the answer shows
+-- what one call is to a driver: an answer of the state that the image stands for, the image of the next, and the code
 pub record StepsImage (s : State) (x : Exchange) (image : List ℕ) (code : ℕ) : Type 0 where
   pub answered : isAnswered x ≡ true → x .buffer ≡ answer s (x .bytes)
   pub next : image ≡ imageOf ((step s (handed x)) .state)
@@ -91,11 +91,13 @@ chain-trace image (k ∷ more) a h =
     let b : Acceptable (k .image) = subst Acceptable (sym (h .0)) a in
     let made = h .1 .0 in
     let later = chain-trace (k .left) more (left-acceptable k b made) (h .1 .1) in
-    let whole : Trace (stateAt (k .image)) (exchangesOver (k ∷ more)) = (image-steps k b made .answered, rw (left-state k b made) at later) in
-    subst (λ (m : List ℕ). Trace (stateAt m) (exchangesOver (k ∷ more))) (h .0) whole
+    subst (λ (m : List ℕ). Trace (stateAt m) (exchangesOver (k ∷ more))) (h .0)
+    (image-steps k b made .answered, rw (left-state k b made) at later)
 
 -- and the last image is that of the state after the records
-pub images-are-states : (image : List ℕ) (ks : List HostCall) → Acceptable image → ImageChain image ks → lastImage image ks ≡ imageOf (after (stateAt image) (handedOver (exchangesOver ks)))
+pub images-are-states :
+    (image : List ℕ) (ks : List HostCall) → Acceptable image → ImageChain image ks →
+    lastImage image ks ≡ imageOf (after (stateAt image) (handedOver (exchangesOver ks)))
 images-are-states image [] a h = a .image .packed
 images-are-states image (k ∷ more) a h =
     let b : Acceptable (k .image) = subst Acceptable (sym (h .0)) a in
@@ -114,7 +116,9 @@ pub call-on-made : (image bytes before : List ℕ) → IsMade (callOn image byte
 call-on-made image bytes before = record { image = refl; buffer = refl; code = refl }
 
 -- every trace is what some chain leaves: each call is lent a buffer of the size that it shows
-lent-shown : (image : List ℕ) (x : Exchange) → Acceptable image → (isAnswered x ≡ true → x .buffer ≡ answer (stateAt image) (x .bytes)) → callOn image (x .bytes) (x .buffer) .buffer ≡ x .buffer
+lent-shown :
+    (image : List ℕ) (x : Exchange) → Acceptable image → (isAnswered x ≡ true → x .buffer ≡ answer (stateAt image) (x .bytes)) →
+    callOn image (x .bytes) (x .buffer) .buffer ≡ x .buffer
 unfolding imageCalled called
 lent-shown image x a h = rw (acceptable-accepted image a) (go (isAnswered x) refl)
   where
@@ -122,7 +126,9 @@ lent-shown image x a h = rw (acceptable-accepted image a) (go (isAnswered x) ref
     go true e = rw e (sym (h e))
     go false e = rw e
 
-pub trace-chain : (image : List ℕ) (xs : List Exchange) → Acceptable image → Trace (stateAt image) xs → (ks : List HostCall) × (ImageChain image ks × (exchangesOver ks ≡ xs))
+pub trace-chain :
+    (image : List ℕ) (xs : List Exchange) → Acceptable image → Trace (stateAt image) xs →
+    (ks : List HostCall) × (ImageChain image ks × (exchangesOver ks ≡ xs))
 trace-chain image [] a t = ([], (tt, refl))
 trace-chain image (x ∷ more) a t =
     let k = callOn image (x .bytes) (x .buffer) in
@@ -149,7 +155,9 @@ abbrev BeginsAt : List ℕ → List (List HostCall) → Type 0
 BeginsAt image [] = Unit {0}
 BeginsAt image (chain ∷ more) = ImageChain image chain × AllChains more
 
-begins-put : (t : Bool) (k : HostCall) (chains : List (List HostCall)) → IsMade k → (t ≡ true → BeginsAt (k .left) chains) → AllChains chains → BeginsAt (k .image) (put t k chains)
+begins-put :
+    (t : Bool) (k : HostCall) (chains : List (List HostCall)) → IsMade k → (t ≡ true → BeginsAt (k .left) chains) → AllChains chains →
+    BeginsAt (k .image) (put t k chains)
 begins-put true k [] made next h = ((refl, (made, tt)), tt)
 begins-put true k (chain ∷ more) made next h = ((refl, (made, next refl .0)), h .1)
 begins-put false k chains made next h = ((refl, (made, tt)), h)
