@@ -24,9 +24,9 @@ use Rattle.driver.specs.Exchanges.{Exchange, takenOf, over}
 use Rattle.driver.specs.Driving.{DrivesBlind, takenSoFar}
 use Rattle.driver.specs.Calls.{exchangesIn}
 use Rattle.driver.specs.DemandThree.{DemandThree, stateAfter}
-use Rattle.driver.specs.ImageChains.{HostCall, ImageChain, lastImage, exchangesOver, AllMade, chainsOf}
+use Rattle.driver.specs.ImageChains.{HostCall, ImageChain, lastImage, exchangesOver, AllMade, chainsOf, Claimed}
 use Rattle.driver.proofs.Images.{callOn, call-on-made, trace-chain, chain-is-one}
-use Rattle.driver.proofs.DemandThree.{demand-three-of-images, demand-three-of-host}
+use Rattle.driver.proofs.DemandThree.{demand-three-of-images, demand-three-of-host-calls, demand-three-of-host}
 use Rattle.driver.proofs.Example.{whole, whole-trace}
 
 -- one name opens all that a call over an image is made of
@@ -112,7 +112,11 @@ no-chain image h =
     let e : _≡_ {A = ℕ} 2 1 = ap length (sym older-falls ∙ chain-is-one image older h) in
     omega arith
 
--- of the first of the two demand 3 holds: one byte is taken
+-- of each of the two demand 3 is claimed
+pub each-claimed : Claimed (latest ∷ again ∷ [])
+each-claimed = rw older-falls at (demand-three-of-host-calls older older-made)
+
+-- in the first one byte is taken
 pub latest-claimed : DemandThree (stateAt zeros) (exchangesOver latest)
 unfolding latest
 latest-claimed = demand-three-of-images zeros latest zeros-bytes zeros-accepted (calls-chain zeros (begun ++ asking))

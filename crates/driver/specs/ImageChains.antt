@@ -4,9 +4,12 @@ use Prim.Native.Nat.{ℕ}
 use mathlib.Core.Path.{_≡_}
 use mathlib.Core.Bool.{Bool, true, false}
 use mathlib.Core.List.{List, [], _∷_, _++_}
-use Rattle.saved.specs.Accepted.{sameBytes}
+use Rattle.rules.specs.Ranges.{Bytes}
+use Rattle.image.specs.Image.{stateAt}
+use Rattle.saved.specs.Accepted.{sameBytes, accepted}
 use Rattle.host.specs.ImageCalls.{IsImageCall}
 use Rattle.driver.specs.Exchanges.{Exchange}
+use Rattle.driver.specs.DemandThree.{DemandThree}
 
 -- a call: the image handed in, the record, the lent buffer before it; the image left, the buffer after it, and the code returned
 pub record HostCall : Type 0 where
@@ -68,3 +71,11 @@ AllChains (chain ∷ more) = IsChain chain × AllChains more
 abbrev pub allCalls : List (List HostCall) → List HostCall
 allCalls [] = []
 allCalls (chain ∷ more) = chain ++ allCalls more
+
+-- WHAT IS CLAIMED OF ANY CALLS: demand 3 of each chain from an accepted image, where every run and every round needs its start anew
+-- (`Starts`); of two chains together nothing
+abbrev pub Claimed : List (List HostCall) → Type 0
+Claimed [] = Unit {0}
+Claimed ([] ∷ more) = Claimed more
+Claimed ((k ∷ chain) ∷ more) =
+    (Bytes (k .image) → accepted (k .image) ≡ true → DemandThree (stateAt (k .image)) (exchangesOver (k ∷ chain))) × Claimed more
