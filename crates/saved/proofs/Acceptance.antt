@@ -205,14 +205,15 @@ accepted-is m b = (
 )
 
 -- WHAT A STEP LEAVES OF AN ACCEPTED IMAGE IS ACCEPTED
-pub step-accepted : (m : List ℕ) → Bytes m → accepted m ≡ true → (bytes : List ℕ) → accepted (imageOf ((step (stateAt m) bytes) .state)) ≡ true
-step-accepted m b e bytes =
-    let a = accepted-acceptable m b e in
+pub step-acceptable : (m : List ℕ) → Acceptable m → (bytes : List ℕ) → Acceptable (imageOf ((step (stateAt m) bytes) .state))
+step-acceptable m a bytes =
     let i = a .image in
     let s : State = (step (stateAt m) bytes) .state in
     let f : InRange s = step-in-range (stateAt m) bytes (i .range) in
-    acceptable-accepted (imageOf s)
-    (record {
+    record {
       image = is-image s f (step-bytes (stateAt m) bytes (i .range) (i .bytes) .state);
       rest = subst AtRest (sym (read-back s f)) (step-rests (stateAt m) bytes (i .range) (a .rest));
-    })
+    }
+
+pub step-accepted : (m : List ℕ) → Bytes m → accepted m ≡ true → (bytes : List ℕ) → accepted (imageOf ((step (stateAt m) bytes) .state)) ≡ true
+step-accepted m b e bytes = acceptable-accepted _ (step-acceptable m (accepted-acceptable m b e) bytes)
