@@ -61,6 +61,16 @@ joined-length s (x ∷ xs) i =
     let m : length (joined (answers ((step s x) .state) xs)) ≡ 16 * length xs = joined-length ((step s x) .state) xs (step-fits s x i .state) in
     simp length-append (omega arith)
 
+-- an answer behind those before it, in a buffer whose rest is as it was
+pub placed : (front o b : List ℕ) (i : ℕ) {out : List ℕ} → length front ≡ 16 * i → out ≡ front ++ drop (16 * i) o → (take (16 * i) out ++ b) ++ drop (16 * i + 16) out ≡ (front ++ b) ++ drop (16 * (i + 1)) o
+placed front o b i {out} h p =
+    let start : take (16 * i) out ≡ front = rw p (take-at front (drop (16 * i) o) (16 * i) h) in
+    let rest : drop (16 * i) out ≡ drop (16 * i) o = rw p (drop-at front (drop (16 * i) o) (16 * i) h) in
+    let k : 16 * i + 16 ≡ 16 * (i + 1) = omega arith in
+    let behind : drop (16 * i + 16) out ≡ drop (16 * (i + 1)) o =
+    sym (drop-drop 16 (16 * i) out) ∙ ap (λ (r : List ℕ). drop 16 r) rest ∙ drop-drop 16 (16 * i) o ∙ ap (λ (j : ℕ). drop j o) k in
+    ap (λ (r : List ℕ). (r ++ b) ++ drop (16 * i + 16) out) start ∙ ap (λ (r : List ℕ). (front ++ b) ++ r) behind
+
 -- the last record ends where the slice does
 record-part : (i n : ℕ) (l : List ℕ) → n ≡ min (4 * i + 4) (length l) → take (n - 4 * i) (drop (4 * i) l) ≡ recordAt i l
 record-part i n l e =
@@ -114,16 +124,10 @@ module _ (s : State) (f : InRange s) (j : InBytes s) (l o : List ℕ) (i : ℕ) 
 
     pub answers-more : buffer ≡ joined (answers s (recordsOf (i + 1) l)) ++ drop (16 * (i + 1)) o
     answers-more =
-        let front : take (16 * i) out ≡ joined (answers s passed) = rw p (take-at (joined (answers s passed)) (drop (16 * i) o) (16 * i) front-length) in
-        let rest : drop (16 * i) out ≡ drop (16 * i) o = rw p (drop-at (joined (answers s passed)) (drop (16 * i) o) (16 * i) front-length) in
-        let k : 16 * i + 16 ≡ 16 * (i + 1) = omega arith in
-        let behind : drop (16 * i + 16) out ≡ drop (16 * (i + 1)) o =
-        sym (drop-drop 16 (16 * i) out) ∙ ap (λ (r : List ℕ). drop 16 r) rest ∙ drop-drop 16 (16 * i) o ∙ ap (λ (j : ℕ). drop j o) k in
         let whole : joined (answers s passed) ++ answer reached (recordAt i l) ≡ joined (answers s (recordsOf (i + 1) l)) =
         sym (ap (λ (r : List (List ℕ)). joined (answers s r)) one-more
         ∙ ap joined (answers-next s passed (recordAt i l)) ∙ joined-next (answers s passed) (answer reached (recordAt i l))) in
         t .answers
         ∙ ap (λ (x : State). (take (16 * i) out ++ answer x (recordAt i l)) ++ drop (16 * i + 16) out) state-reached
-        ∙ ap (λ (r : List ℕ). (r ++ answer reached (recordAt i l)) ++ drop (16 * i + 16) out) front
-        ∙ ap (λ (r : List ℕ). r ++ drop (16 * i + 16) out) whole
-        ∙ ap (λ (r : List ℕ). joined (answers s (recordsOf (i + 1) l)) ++ r) behind
+        ∙ placed (joined (answers s passed)) o (answer reached (recordAt i l)) i front-length p
+        ∙ ap (λ (r : List ℕ). r ++ drop (16 * (i + 1)) o) whole
