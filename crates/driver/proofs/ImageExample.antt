@@ -116,11 +116,11 @@ no-chain image h =
 pub each-claimed : Claimed (latest ∷ again ∷ [])
 each-claimed = rw older-falls at (demand-three-of-host-calls older older-made)
 
--- in the first one byte is taken
 pub latest-claimed : DemandThree (stateAt zeros) (exchangesOver latest)
 unfolding latest
 latest-claimed = demand-three-of-images zeros latest zeros-bytes zeros-accepted (calls-chain zeros (begun ++ asking))
 
+-- in the first of them one byte is taken
 pub latest-takes : over takenOf (exchangesOver latest) ≡ 0x41 ∷ []
 unfolding calls saved latest
 latest-takes = refl

@@ -50,6 +50,7 @@ abbrev pub isLatest : HostCall → List HostCall → Bool
 isLatest k [] = false
 isLatest k (next ∷ more) = sameBytes (next .image) (k .left)
 
+-- a call before the chains behind it: the first of the next chain, or a chain by itself
 abbrev pub put : Bool → HostCall → List (List HostCall) → List (List HostCall)
 put true k (chain ∷ more) = (k ∷ chain) ∷ more
 put true k [] = (k ∷ []) ∷ []
