@@ -1,7 +1,7 @@
 -- The calls over an image: one record as a run of one, and refused answers one behind the other.
 use Prim.Native.Nat.{ℕ, zero, suc, _+_, _*_, _/_, _≤_}
-use mathlib.Core.Bool.{true, false, cond}
-use mathlib.Core.Path.{_≡_, refl, ap, sym, _∙_}
+use mathlib.Core.Bool.{Bool, true, false, cond}
+use mathlib.Core.Path.{_≡_, refl, ap, sym, subst, _∙_}
 use mathlib.Core.List.{List, [], _∷_, _++_, append-nil, append-assoc}
 use native.Mathlib.Omega.{arith}
 use native.Mathlib.Numerals.{add-one}
@@ -12,11 +12,13 @@ use borrow.Author.Tests.{eq-eqb, ne-eqb}
 use Rattle.rules.specs.State.{State}
 use Rattle.rules.specs.Records.{decode}
 use Rattle.rules.specs.Answers.{Stepped, answerOf, answerBytes, answerSize}
-use Rattle.rules.specs.Step.{stepDecoded, step, answer, called, after, answers}
+use Rattle.rules.specs.declared.codes.Code.the-variants.{Malformed}
+use Rattle.rules.specs.Step.{Called, stepDecoded, step, answer, called, after, answers}
 use Rattle.image.specs.Image.{IsImage, imageOf, stateAt}
 use Rattle.saved.specs.Accepted.{accepted}
 use Rattle.step.specs.Runs.{recordsOf, steppedIn, joined, IsRunOver}
-use Rattle.step.proofs.Running.{placed}
+use Rattle.saved.proofs.Acceptance.{Acceptable, step-acceptable}
+use Rattle.step.proofs.Running.{placed, image-reached}
 use Rattle.step.proofs.Shows.{answer-code}
 use Rattle.host.specs.ImageCalls.{refusedAnswer, refusals, calledOver, imageCalled, imageRun, refusedCall, refusedBuffer, Left, IsOneAnswered, IsImageRun, IsRefusedRun}
 
@@ -63,6 +65,18 @@ called-one before {m} {bytes} h w e =
       buffer = w .answer;
       code = e ∙ ap (λ (l : List ℕ). getD l 0 0 / 32) (w .answer) ∙ answer-code (stateAt m) bytes;
     })
+
+-- what a call or a run leaves is an image
+call-image : {m : List ℕ} → Acceptable m → (bytes before : List ℕ) (t : Bool) → IsImage (imageOf ((cond {A = Called} t (record { state = (step (stateAt m) bytes) .state; code = (step (stateAt m) bytes) .code; buffer = answer (stateAt m) bytes }) (record { state = stateAt m; code = Malformed; buffer = before })) .state))
+call-image {m} a bytes before true = step-acceptable m a bytes .image
+call-image {m} a bytes before false = subst IsImage (a .image .packed) (a .image)
+
+pub called-image : (bytes before : List ℕ) {m n buffer : List ℕ} {r : ℕ} → Acceptable m → Left (calledOver m bytes before) n buffer r → IsImage n
+unfolding called
+called-image bytes before a w = subst IsImage (sym (w .image)) (call-image a bytes before (eqb (length before) 16))
+
+pub run-image : {m bytes before n buffer : List ℕ} {r : ℕ} → IsImage m → IsRunOver m bytes before n buffer r → IsImage n
+run-image {m} {bytes} {before} g w = image-reached (stateAt m) (g .range) (g .bytes) bytes before (steppedIn bytes before) (w .image) (w .answers)
 
 -- THE CALL
 pub call-refused : (image bytes before : List ℕ) {buffer : List ℕ} {r : ℕ} → accepted image ≡ false → buffer ≡ (refusedCall image before) .buffer → r ≡ 1 → Left (imageCalled image bytes before) image buffer r

@@ -1,12 +1,12 @@
 // The exported functions for a host program: the chip is handed over as the bytes of its image.
 ghost use Rattle.host.specs.ImageCalls.{IsImageCall, IsImageRun};
-use saved::copies::copy;
 use crate::over::step_over;
 use crate::refusing::refuse;
 use crate::refusing::refuse_all;
 use image::layout::SIZE;
-use saved::is_accepted;
 use saved::bytes::known;
+use saved::copies::copy;
+use saved::is_accepted;
 use step::run::answered;
 
 mod over;
