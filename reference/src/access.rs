@@ -194,6 +194,9 @@ impl Chip {
             } else {
                 self.seldi_noted = true;
             }
+        } else if value & SELDI != 0 {
+            // "Noted is 0 whenever SELDI is 0."
+            self.seldi_noted = false;
         }
     }
 
