@@ -1,0 +1,45 @@
+// R-4: the stack kept where it is. "The thirty-two stack bytes and their pointer are updated through one lent record." Each
+// function takes the record apart, calls the functions by value and puts it together again; a pointer past 31 is read as tidied.
+ghost use mathlib.Core.Path.{_≡_};
+ghost use Prim.Native.Nat.{_%_};
+ghost use Rattle.rules.specs.Registers.{dmacntrl1Of, dmacntrl1Byte};
+ghost use Rattle.rules.specs.Stack.{stackByte, stackRead, stackWritten, pointed};
+ghost use Rattle.rules.specs.Chips.{stackView};
+use crate::stack_byte;
+use crate::stack_read;
+use crate::stack_written;
+use registers::bytes::dmacntrl1_byte;
+use registers::bytes::dmacntrl1_of;
+use rules::chip::Stack;
+use rules::registers::Dmacntrl1;
+
+// A read of 35Dh: the byte at the pointer's place.
+pub fn read_stack(enstk32: bool, s: &mut Stack) -> u8
+    ensures { λ r. ⌜ (r ≡ stackByte enstk32 (stackView (now (s .entry)))) × (now (s .exit) ≡ stackRead enstk32 (stackView (now (s .entry)))) ⌝ }
+{
+    let value = stack_byte(enstk32, *s);
+    *s = stack_read(enstk32, *s);
+    value
+}
+
+// A write of 35Dh.
+pub fn write_stack(enstk32: bool, value: u8, s: &mut Stack)
+    ensures { λ _. ⌜ now (s .exit) ≡ stackWritten enstk32 value (stackView (now (s .entry))) ⌝ }
+{
+    *s = stack_written(enstk32, value, *s);
+}
+
+// A write of 353h: PWRDWN and ENSTK32 come in with the byte and go out by value.
+pub fn write_dmacntrl1(value: u8, s: &mut Stack) -> Dmacntrl1
+    ensures { λ r. ⌜ (r ≡ dmacntrl1Of value) × (now (s .exit) ≡ pointed value (stackView (now (s .entry)))) ⌝ }
+{
+    *s = crate::pointed(value, *s);
+    dmacntrl1_of(value)
+}
+
+// A read of 353h changes nothing, so it takes the pointer by value.
+pub fn read_dmacntrl1(control: Dmacntrl1, pointer: u8) -> u8
+    ensures { λ r. ⌜ r ≡ dmacntrl1Byte control (pointer % 32) ⌝ }
+{
+    dmacntrl1_byte(control, pointer)
+}
