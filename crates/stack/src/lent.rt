@@ -5,6 +5,7 @@ ghost use Prim.Native.Nat.{_%_};
 ghost use Rattle.rules.specs.Registers.{dmacntrl1Of, dmacntrl1Byte};
 ghost use Rattle.rules.specs.Stack.{stackByte, stackRead, stackWritten, pointed};
 ghost use Rattle.rules.specs.Chips.{stackView};
+ghost use Rattle.stack.specs.Accesses.{stackAccessed};
 use crate::stack_byte;
 use crate::stack_read;
 use crate::stack_written;
@@ -42,4 +43,39 @@ pub fn read_dmacntrl1(control: Dmacntrl1, pointer: u8) -> u8
     ensures { λ r. ⌜ r ≡ dmacntrl1Byte control (pointer % 32) ⌝ }
 {
     dmacntrl1_byte(control, pointer)
+}
+
+// An access to 35Dh or 353h, with the byte that is written.
+pub enum Access {
+    ReadStack,
+    WriteStack(u8),
+    ReadDmacntrl1,
+    WriteDmacntrl1(u8),
+}
+
+// What it leaves of 353h and of the stack, and the value read, else 0.
+pub struct Accessed {
+    pub control: Dmacntrl1,
+    pub stack: Stack,
+    pub value: u8,
+}
+
+// Any access, by value: it lends its own copy, so that its callers have no reference to a stack.
+pub fn stack_accessed(access: Access, control: Dmacntrl1, s: Stack) -> Accessed
+    ensures { λ r. ⌜ r ≡ stackAccessed access control s ⌝ }
+{
+    let mut stack = s;
+    let mut after = control;
+    let mut value = 0;
+    match access {
+        Access::ReadStack => value = read_stack(control.enstk32, &mut stack),
+        Access::WriteStack(byte) => write_stack(control.enstk32, byte, &mut stack),
+        Access::ReadDmacntrl1 => value = read_dmacntrl1(control, s.pointer),
+        Access::WriteDmacntrl1(byte) => after = write_dmacntrl1(byte, &mut stack),
+    }
+    Accessed {
+        control: after,
+        stack: stack,
+        value: value,
+    }
 }
