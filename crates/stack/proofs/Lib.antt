@@ -1,3 +1,4 @@
 pub mod Places
 pub mod Tidied
 pub mod LentWalk
+pub mod Apart
