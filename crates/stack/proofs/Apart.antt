@@ -6,21 +6,25 @@ use mathlib.Core.Bool.{Bool, true, false, not, _&&_, _||_, cond}
 use mathlib.Core.List.{[], _∷_, _++_}
 use lib.Bits.{bitOr}
 use lib.Dec.{ltb}
+use lib.ListN.{length}
 use Rattle.rules.specs.State.{State}
-use Rattle.rules.specs.Numbers.{one, ones, even}
+use Rattle.rules.specs.Numbers.{one, ones, even, byteOf, padded}
 use Rattle.rules.specs.Changed.{withRegisters, withTransfer, withStatus, withLatches, withKept, withQuiet, withSequencer, withScsi, withOffset}
-use Rattle.rules.specs.Seen.{phaseDrives, phaseData, byteDriving, byteDriven, rstSeen, selSeen, bsySeen, ioSeen, reqSeen, manual, automatic, normal, ackDriven, ackSeen, connected, matched, path, synchronous, limit, mismatched, driving, dataDriven, parityDriven, dataSeen, paritySeen, parityEven}
+use Rattle.rules.specs.Seen.{phaseBsy, phaseSel, phaseDrives, phaseData, byteDriving, byteDriven, rstSeen, selSeen, bsySeen, ioSeen, reqSeen, manual, automatic, normal, ackDriven, ackSeen, connected, matched, path, synchronous, limit, mismatched, driving, dataDriven, parityDriven, dataSeen, paritySeen, parityEven}
 use Rattle.rules.specs.Sequencer.{timeout, called, higherId, sequencedOf, selingoRaised, seltoRaised, seldoRaised, seldiRaised, silenced, arbitratingFor, selects, clearingFor, timesOut, selectingFor, reselected, answeringFor, tickIn, uncalled, letGo, forestalled, connects, selected, begun, withdrawn, answers, resolved, sequenced}
+use Rattle.rules.specs.Interrupts.{phasemis, anyLatch, anySelection, instat, irq}
+use Rattle.rules.specs.Reads.{sstat1}
 use Rattle.rules.specs.StepA.{withAtn}
-use Rattle.rules.specs.StepB.{registersWith, scsiseqWith, reqFalls, ackReleased, afterReqFalls, rstRises, busReset, afterRstRises, reqRises, parityBad, keptAfter, errorLatched, attention, synchronousReq, beyondLimit, reqWithin, lateByte, storedByte, reqRisen, afterReqRises, quietAfter, busFree, busFreed, afterQuietTicks, phaseChanges, phaseChanged, afterPhaseChanges, afterSequencer, firstFour, inOrder}
+use Rattle.rules.specs.StepB.{registersWith, scsiseqWith, reqFalls, ackReleased, afterReqFalls, rstRises, busReset, afterRstRises, reqRises, parityBad, keptAfter, errorLatched, attention, synchronousReq, beyondLimit, beyond, reqWithin, lateByte, storedByte, reqRisen, afterReqRises, quietAfter, busFree, busFreed, afterQuietTicks, phaseChanges, phaseChanged, afterPhaseChanges, afterSequencer, firstFour, inOrder}
 use Rattle.rules.specs.StepC.{Settling, conditions}
+use Rattle.rules.specs.Answers.{Stepped, controlDriven, answerOf}
 use Rattle.rules.specs.StepD.{fifoConflict, pioReady, statusRaised, statusD, latchesD, finished}
 use Rattle.rules.specs.declared.chip.Phase.{Phase}
 use Rattle.rules.specs.declared.chip.Phase.the-variants.{Idle, Waiting, Arbitrating, Clearing, Selecting, Holding, Answering, Answered}
 use Rattle.rules.specs.declared.chip.Sequenced.{Sequenced}
 use Rattle.rules.specs.declared.chip.Stack.{Stack}
 use Rattle.rules.specs.declared.registers.Dmacntrl1.{Dmacntrl1}
-use Rattle.stack.specs.Apart.{withApart}
+use Rattle.stack.specs.Apart.{withApart, steppedApart, answerWith}
 
 -- what is seen and driven, and what follows from it
 module _ (d : Dmacntrl1) (k : Stack) (s : State) where
@@ -299,3 +303,65 @@ module _ (c d : Dmacntrl1) (j k : Stack) where
       withApart d k
       (withStatus (statusD (t .acks) (ack-same d k u i) (raised-same d k u i))
       (withLatches (latchesD (last .registers) (b .registers) (a .status) (raised-same d k u i) (b .latches)) u))
+
+  -- what "REQ rises" is handed, and whether it is beyond the limit
+  pub req-apart : (last a : State) → afterRstRises (withApart c j last) (afterReqFalls (withApart c j last) (withApart d k a)) ≡ withApart d k (afterRstRises last (afterReqFalls last a))
+  req-apart last a = ap (afterRstRises (withApart c j last)) (falls last a) ∙ reset last _
+
+  pub beyond-same : (last now : State) → beyond (withApart c j last) (withApart d k now) ≡ beyond last now
+  unfolding beyond reqRises rstSeen
+  beyond-same last now = λ i. reqRises last now && synchronous-req-same d k now i && beyond-limit-same d k now i
+
+-- WHAT AN ANSWER SHOWS beside code, value, moves, ACKs and bytes sent
+module _ (d : Dmacntrl1) (k : Stack) (s : State) where
+  phasemis-same : phasemis (withApart d k s) ≡ phasemis s
+  unfolding phasemis
+  phasemis-same = ap (λ (b : Bool). b && s .status .reqinit) (mismatched-same d k s)
+
+  pub instat-same : instat (withApart d k s) ≡ instat s
+  unfolding instat
+  instat-same =
+      ap
+      (λ (b : Bool).
+      (anyLatch (s .latches) || anySelection (s .sequencer .latches)) || (b && s .registers .simode1 .enphasemis) || s .registers .dmacntrl0 .swint)
+      phasemis-same
+
+  pub sstat1-same : sstat1 (withApart d k s) ≡ sstat1 s
+  unfolding sstat1
+  sstat1-same =
+      let t = s .status in
+      ap (λ (b : Bool). byteOf (s .sequencer .status .selto) false (t .scsirsti) b (t .busfree) (t .scsiperr) (t .phasechg) (t .reqinit)) phasemis-same
+
+  irq-same : irq (withApart d k s) ≡ irq s
+  unfolding irq
+  irq-same = ap (λ (b : Bool). b && s .registers .dmacntrl0 .inten) instat-same
+
+  control-same : controlDriven (withApart d k s) ≡ controlDriven s
+  unfolding controlDriven
+  control-same =
+      let g = s .registers .scsisig in
+      let p = s .sequencer .phase in
+      ap (byteOf false false false (g .atno) (g .selo || phaseSel p) (g .bsyo || phaseBsy p) false) (ack-driven-same d k s)
+
+-- AN ANSWER SHOWS NEITHER THE STACK NOR THE BITS OF 353h
+pub answer-apart : (d : Dmacntrl1) (k : Stack) (v : ℕ) (r : Stepped) → answerOf (steppedApart d k v r) ≡ answerWith v (answerOf r)
+unfolding answerOf
+answer-apart d k v r =
+    let s = r .state in
+    λ i.
+    record {
+      code = r .code;
+      irq = irq-same d k s i;
+      acks = r .acks;
+      moves = r .moves;
+      driving = driving-same d k s i;
+      rst = s .registers .scsiseq .scsirsto;
+      parity = parity-driven-same d k s i;
+      value = v;
+      control = control-same d k s i;
+      driven = data-driven-same d k s i;
+      offset = s .transfer .offset;
+      scsi = length (s .transfer .scsi);
+      host = length (s .transfer .host);
+      sent = padded 8 (r .sent);
+    }
