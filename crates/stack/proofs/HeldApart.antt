@@ -99,8 +99,8 @@ held-apart b [] i r = record { shown = refl; state = refl }
 held-apart b (bytes ∷ more) i r =
     let one = same b bytes i r (doing (decode bytes)) (means (decode bytes)) in
     let rest =
-        held-apart (boxed b bytes (doing (decode bytes))) more (subst InRange (one .state) (step-in-range (whole b) bytes i))
-        (subst AtRest (one .state) (step-rests (whole b) bytes i r)) in
+    held-apart (boxed b bytes (doing (decode bytes))) more (subst InRange (one .state) (step-in-range (whole b) bytes i))
+    (subst AtRest (one .state) (step-rests (whole b) bytes i r)) in
     record {
       shown = (λ j. one .shown j ∷ answers (one .state j) more) ∙ ap (λ (l : List (List ℕ)). boxAnswer b bytes (doing (decode bytes)) ∷ l) (rest .shown);
       state = ap (λ (s : State). after s more) (one .state) ∙ rest .state;
