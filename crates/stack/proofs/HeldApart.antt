@@ -106,7 +106,9 @@ held-apart b (bytes ∷ more) i r =
       state = ap (λ (s : State). after s more) (one .state) ∙ rest .state;
     }
 
--- FROM POWER RESET
-pub reset-apart : (records : List (List ℕ)) → Alike boxReset records
+-- FROM POWER RESET: the answers, and the chip that the box has once it puts all in one
+pub reset-apart : (records : List (List ℕ)) → (answers powerReset records ≡ boxAnswers boxReset records) × (after powerReset records ≡ whole (boxAfter boxReset records))
 unfolding powerReset
-reset-apart records = held-apart boxReset records power-reset-fits power-reset-rests
+reset-apart records =
+    let a = held-apart boxReset records power-reset-fits power-reset-rests in
+    (a .shown, a .state)

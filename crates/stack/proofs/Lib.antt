@@ -5,3 +5,4 @@ pub mod Apart
 pub mod AsBefore
 pub mod Others
 pub mod HeldApart
+pub mod Examples

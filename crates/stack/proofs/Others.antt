@@ -4,7 +4,8 @@ use Prim.Native.Nat.{ℕ, zero, suc, _+_}
 use mathlib.Core.Path.{_≡_, refl, ap, sym, subst, _∙_}
 use mathlib.Core.Bool.{Bool, true, false, not, _&&_, _||_, cond}
 use mathlib.Core.List.{List, [], _∷_, _++_}
-use lib.Dec.{T, eqb, leb, eqb-refl}
+use borrow.Author.Tests.{eq-eqb}
+use lib.Dec.{eqb, leb}
 use lib.ListN.{length, replicate}
 use Rattle.rules.specs.State.{State, powerReset}
 use Rattle.rules.specs.Numbers.{byteOf}
@@ -41,14 +42,6 @@ use Rattle.rules.proofs.Logic.{never}
 use Rattle.map.proofs.Offsets.{read-offset}
 use Rattle.stack.specs.Apart.{withApart, steppedApart, touches, resets, elsewhere}
 use Rattle.stack.proofs.Apart.{matched-same, ack-same, data-same, instat-same, sstat1-same, conditions-same, b-apart, d-apart, req-apart, beyond-same, answer-apart}
-
--- a number is itself
-eqb-same : (n : ℕ) → eqb n n ≡ true
-eqb-same n = go (eqb n n) (eqb-refl n)
-  where
-    go : (b : Bool) → T b → b ≡ true
-    go true h = refl
-    go false h = absurd h
 
 -- what an event that touches neither 35Dh nor 353h does not do
 pub record Away (e : Event) : Type 0 where
@@ -186,7 +179,7 @@ module _ (d : Dmacntrl1) (k : Stack) (s : State) where
   missed : (offset : ℕ) (r t : Register) → readAt offset ≡ Present r → reads (Read offset) t ≡ false → r ≡ t → ⊥
   unfolding reads
   missed offset r t e h same =
-      never (sym h ∙ ap (eqb offset) (sym (read-offset offset r e ∙ ap offsetOf same)) ∙ eqb-same offset)
+      never (sym h ∙ ap (eqb offset) (sym (read-offset offset r e ∙ ap offsetOf same)) ∙ eq-eqb offset offset refl)
 
   mapped-same : (offset : ℕ) (m : Mapped) → readAt offset ≡ m → Away (Read offset) → readMapped other m ≡ readMapped s m
   mapped-same offset (Present r) e a =
