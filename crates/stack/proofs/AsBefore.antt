@@ -166,7 +166,7 @@ still-rests s i e =
 payload : (byte : ℕ) → payloadOf 0 0 byte ≡ byte
 payload byte = omega arith
 
-decode-access : (a : Access) → AccessFits a → decode (accessRecord a) ≡ Well (accessEvent a)
+pub decode-access : (a : Access) → AccessFits a → decode (accessRecord a) ≡ Well (accessEvent a)
 unfolding decode fieldsOf wellFormed
 decode-access ReadStack f = refl
 decode-access (WriteStack byte) f = rw (payload byte, lt-ltb byte 256 f)
