@@ -268,6 +268,13 @@ pub record-other : (d : Dmacntrl1) (k : Stack) (s : State) (bytes : List ℕ) �
 unfolding step
 record-other d k s bytes h = decoded-other d k s (decode bytes) h
 
+-- so it leaves both as they are
+pub others-leave : (s : State) (bytes : List ℕ) → elsewhere (decode bytes) ≡ true
+    → ((step s bytes) .state .stack ≡ s .stack) × ((step s bytes) .state .registers .dmacntrl1 ≡ s .registers .dmacntrl1)
+others-leave s bytes h =
+    let e = record-other (s .registers .dmacntrl1) (s .stack) s bytes h in
+    (ap (λ (r : Stepped). r .state .stack) e, ap (λ (r : Stepped). r .state .registers .dmacntrl1) e)
+
 -- and the sixteen bytes of its answer are the same
 pub answer-other : (d : Dmacntrl1) (k : Stack) (s : State) (bytes : List ℕ) → elsewhere (decode bytes) ≡ true → answer (withApart d k s) bytes ≡ answer s bytes
 unfolding answer answerOf

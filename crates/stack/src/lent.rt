@@ -1,5 +1,5 @@
-// R-4: the stack kept where it is. "The thirty-two stack bytes and their pointer are updated through one lent record." Each
-// function takes the record apart, calls the functions by value and puts it together again; a pointer past 31 is read as tidied.
+// R-4: the stack kept where it is. "The thirty-two stack bytes and their pointer are updated through one lent record." The work is
+// done by the functions by value; these copy the record out and store what they give. A pointer past 31 is read as tidied.
 ghost use mathlib.Core.Path.{_≡_};
 ghost use Prim.Native.Nat.{_%_};
 ghost use Rattle.rules.specs.Registers.{dmacntrl1Of, dmacntrl1Byte};

@@ -1,6 +1,5 @@
 // R-4: the exported function for a host program that holds the stack apart from the chip.
 ghost use mathlib.Core.Path.{_≡_};
-ghost use Prim.Native.Nat.{ℕ};
 ghost use lib.ListN.{length};
 ghost use Rattle.rules.specs.declared.records.Event.the-variants.{Write, Read};
 ghost use Rattle.stack.specs.Box.{doingEvent, doing};
@@ -17,6 +16,11 @@ use stack::lent::stack_accessed;
 
 pub mod kept;
 
+// Offsets from 340h.
+const STACK_OFFSET: u8 = 0x1D;
+
+const DMACNTRL1_OFFSET: u8 = 0x13;
+
 // The access that a record asks for; every other record is for the step.
 pub enum Found {
     Here(Access),
@@ -27,10 +31,10 @@ pub enum Found {
 pub fn written_at(offset: u8, value: u8) -> Found
     ensures { λ r. ⌜ r ≡ foundIn (doingEvent (Write offset value)) ⌝ }
 {
-    if offset == 0x1D {
+    if offset == STACK_OFFSET {
         return Found::Here(Access::WriteStack(value));
     }
-    if offset == 0x13 {
+    if offset == DMACNTRL1_OFFSET {
         return Found::Here(Access::WriteDmacntrl1(value));
     }
     Found::Elsewhere
@@ -40,10 +44,10 @@ pub fn written_at(offset: u8, value: u8) -> Found
 pub fn read_at(offset: u8) -> Found
     ensures { λ r. ⌜ r ≡ foundIn (doingEvent (Read offset)) ⌝ }
 {
-    if offset == 0x1D {
+    if offset == STACK_OFFSET {
         return Found::Here(Access::ReadStack);
     }
-    if offset == 0x13 {
+    if offset == DMACNTRL1_OFFSET {
         return Found::Here(Access::ReadDmacntrl1);
     }
     Found::Elsewhere
