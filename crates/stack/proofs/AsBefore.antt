@@ -2,11 +2,10 @@
 -- and the value, and these are what `stackAccessed` leaves and gives.
 use Prim.Native.Nat.{ℕ, _+_, _%_, _<_, _≤_}
 use mathlib.Core.Path.{_≡_, refl, ap, sym, subst, _∙_}
-use mathlib.Core.Bool.{Bool, true, false, cond}
+use mathlib.Core.Bool.{cond}
 use mathlib.Core.List.{List, []}
 use native.Mathlib.Omega.{arith}
 use borrow.Author.Tests.{le-ltb, lt-ltb}
-use lib.Dec.{ltb}
 use lib.ListN.{length}
 use Rattle.rules.specs.State.{State, powerReset}
 use Rattle.rules.specs.Registers.{dmacntrl1Byte}
@@ -17,25 +16,22 @@ use Rattle.rules.specs.Reads.{readOf, valueRead}
 use Rattle.rules.specs.Codes.{absent, testValue, shut, noRoom, noBytes, accessCode, isDone}
 use Rattle.rules.specs.StepA.{clears, clearsLatch, clearsError, clrstcnt, clrch, rstfifo, latchAccess, automaticAck, registersA, hostA, counterA, transferA, errorA, statusA, latchesA, stackA, identityA, givesUp, selectionA, notedA, selectionLatchesA, sequencerA, afterA}
 use Rattle.rules.specs.StepB.{inOrder, afterB, atReq, beyond}
-use Rattle.rules.specs.StepC.{Settling, conditions, settle, turns, started, settledC}
+use Rattle.rules.specs.StepC.{conditions, settle, turns, started, settledC}
 use Rattle.rules.specs.StepD.{finished, afterD}
 use Rattle.rules.specs.Answers.{Stepped, answerOf, answerBytes}
 use Rattle.rules.specs.Step.{done, access, ticksTaken, stepEvent, stepDecoded, step, answer, after}
-use Rattle.rules.specs.Stack.{stackByte, stackRead, stackWritten, pointed}
 use Rattle.rules.specs.Chips.{stackView}
 use Rattle.rules.specs.Ranges.{InRange}
 use Rattle.rules.specs.Rest.{AtRest}
 use Rattle.rules.specs.declared.codes.Code.the-variants.{Done, BeyondLimit}
 use Rattle.rules.specs.declared.chip.Stack.{Stack}
-use Rattle.rules.specs.declared.registers.Dmacntrl1.{Dmacntrl1}
-use Rattle.rules.specs.declared.records.Decoded.{Decoded}
-use Rattle.rules.specs.declared.records.Decoded.the-variants.{Well, Ill}
-use Rattle.rules.specs.declared.records.Event.the-variants.{Write, Read, Ticks}
+use Rattle.rules.specs.declared.records.Decoded.the-variants.{Well}
+use Rattle.rules.specs.declared.records.Event.the-variants.{Ticks}
 use Rattle.rules.proofs.Refusals.{not-beyond}
 use Rattle.rules.proofs.Ranges.{after-b-fits, always-in-range}
-use Rattle.rules.proofs.Still.{zeroTicks, nothing, ticks-done, done-rests, zero-ticks-at-rest, zero-ticks}
+use Rattle.rules.proofs.Still.{zeroTicks, ticks-done, done-rests, zero-ticks-at-rest, zero-ticks}
 use Rattle.stack.specs.Accesses.{stackAccessed}
-use Rattle.stack.specs.Apart.{withApart, steppedApart, answerWith, bytesWith, accessEvent, accessRecord, AccessFits}
+use Rattle.stack.specs.Apart.{withApart, steppedApart, bytesWith, accessEvent, accessRecord, AccessFits}
 use Rattle.stack.specs.declared.lent.Access.{Access}
 use Rattle.stack.specs.declared.lent.Access.the-variants.{ReadStack, WriteStack, ReadDmacntrl1, WriteDmacntrl1}
 use Rattle.stack.specs.declared.lent.Accessed.{Accessed}

@@ -3,7 +3,6 @@
 use Prim.Native.Nat.{ℕ}
 use mathlib.Core.Path.{_≡_, refl}
 use mathlib.Core.List.{List, [], _∷_}
-use Rattle.rules.specs.Map.{table}
 use Rattle.rules.proofs.Computes.{computes}
 use Rattle.rules.specs.Chips.{stackView}
 use Rattle.stack.specs.Accesses.{stackAccessed}

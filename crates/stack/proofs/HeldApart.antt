@@ -2,7 +2,7 @@
 -- byte, and has that chip once it puts all in one.
 use Prim.Native.Nat.{ℕ}
 use mathlib.Core.Path.{_≡_, refl, ap, sym, subst, _∙_}
-use mathlib.Core.Bool.{Bool, true, false, not, _&&_, _||_, cond}
+use mathlib.Core.Bool.{Bool, true, false, cond}
 use mathlib.Core.List.{List, [], _∷_}
 use borrow.Author.Tests.{eqb-true}
 use lib.Dec.{eqb}
@@ -18,14 +18,12 @@ use Rattle.rules.specs.Rest.{AtRest}
 use Rattle.rules.specs.declared.map.Register.the-variants.{STACK, DMACNTRL1}
 use Rattle.rules.specs.declared.records.Decoded.{Decoded}
 use Rattle.rules.specs.declared.records.Decoded.the-variants.{Well, Ill}
-use Rattle.rules.specs.declared.records.Event.{Event}
 use Rattle.rules.specs.declared.records.Event.the-variants.{PowerReset, Write, Read, WordWrite, WordRead, Drive, Ticks}
 use Rattle.rules.proofs.Ranges.{power-reset-fits, step-in-range}
 use Rattle.rules.proofs.Still.{zeroTicks, power-reset-rests, step-rests}
 use Rattle.stack.specs.Accesses.{stackAccessed}
 use Rattle.stack.specs.Apart.{withApart, bytesWith, accessEvent, touches, resets, elsewhere}
 use Rattle.stack.specs.Box.{Box, whole, Doing, Accesses, Resets, Steps, doingEvent, doing, boxed, boxAnswer, boxAfter, boxAnswers, boxReset}
-use Rattle.stack.specs.declared.lent.Access.{Access}
 use Rattle.stack.specs.declared.lent.Access.the-variants.{ReadStack, WriteStack, ReadDmacntrl1, WriteDmacntrl1}
 use Rattle.stack.proofs.AsBefore.{event-as-before, event-answer}
 use Rattle.stack.proofs.Others.{stackZero, record-other, answer-other}

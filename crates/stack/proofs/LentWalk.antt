@@ -9,11 +9,11 @@ use lib.Dec.{T as Holds}
 use mir.Syntax.{Name, Place, Opd as Operand, Body as Code, named, seq, call}
 use mir.Val.{Val, WT, hasTy, vptr}
 use base.Logic.{SProp, ent, sep, ex, emp}
-use base.Fml.{GName, Lft, Share, ftrue, fat, flft, fdead, fobs, fbor, fobor, fauth, fres, flent, fsep}
+use base.Fml.{GName, Lft, Share, ftrue, fat, flft, fobs, fbor, fobor, fauth, fres, flent, fsep}
 use prog.Wp.{Heap, Env, Calls, Loops}
 use ghost.Atoms.{Atoms, sem}
 use contract.Monad.{fact}
-use types.Kit.{Given, Item, Post, Goal, Seq, Soaks, runs, lands, settles, mean, ‵, raw, _⊛_, some, later, _$_, _∵_, !, qed, by, move, keep, drop, split, join, use0, use1, use2, use3, pick, fsplit, fjoin, fpick, fpack, await, updating, now as at-once, show, frame, done}
+use types.Kit.{Given, Item, Post, Goal, Seq, Soaks, runs, lands, settles, mean, ‵, raw, _⊛_, some, later, _$_, _∵_, !, qed, by, move, keep, drop, split, use0, use1, use2, use3, pick, fsplit, fjoin, fpick, fpack, await, updating, now as at-once, show, frame, done}
 use types.Run.{Opds}
 use types.SemTy.{Body}
 use types.Tokens.{lft-new, lft-end}

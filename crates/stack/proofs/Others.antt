@@ -1,22 +1,21 @@
 -- NO OTHER RECORD READS OR CHANGES THE STACK OR THE BITS OF 353h, but power reset, which zeroes them: two states that differ in these alone
 -- give the same answer and states that differ in these alone.
-use Prim.Native.Nat.{ℕ, zero, suc, _+_}
-use mathlib.Core.Path.{_≡_, refl, ap, sym, subst, _∙_}
+use Prim.Native.Nat.{ℕ, zero, suc}
+use mathlib.Core.Path.{_≡_, refl, ap, sym, _∙_}
 use mathlib.Core.Bool.{Bool, true, false, not, _&&_, _||_, cond}
-use mathlib.Core.List.{List, [], _∷_, _++_}
+use mathlib.Core.List.{List}
 use borrow.Author.Tests.{eq-eqb}
 use lib.Dec.{eqb, leb}
 use lib.ListN.{length, replicate}
 use Rattle.rules.specs.State.{State, powerReset}
 use Rattle.rules.specs.Numbers.{byteOf}
-use Rattle.rules.specs.Seen.{cdSeen, ioSeen, msgSeen, atnSeen, selSeen, bsySeen, reqSeen, ackSeen, automatic, matched, dataSeen}
+use Rattle.rules.specs.Seen.{cdSeen, ioSeen, msgSeen, atnSeen, selSeen, bsySeen, reqSeen, automatic}
 use Rattle.rules.specs.Records.{decode}
 use Rattle.rules.specs.Map.{readAt, offsetOf}
 use Rattle.rules.specs.Events.{writes, reads, valueOf, ticksOf}
 use Rattle.rules.specs.Registers.{dmacntrl1Of}
 use Rattle.rules.specs.Sequencer.{selectionAsked}
-use Rattle.rules.specs.Interrupts.{instat}
-use Rattle.rules.specs.Reads.{scsisigi, scsibus, sstat0, sstat1, sstat2, sstat3, sstat4, dmastat, readOf, readMapped, valueRead}
+use Rattle.rules.specs.Reads.{scsisigi, scsibus, sstat0, sstat2, sstat3, sstat4, dmastat, readOf, readMapped, valueRead}
 use Rattle.rules.specs.Codes.{shut, noRoom, noBytes, accessCode, refusedValue, isDone}
 use Rattle.rules.specs.StepA.{latchAccess, automaticAck, registersA, transferA, statusA, latchesA, stackA, identityA, givesUp, selectionA, selectionLatchesA, sequencerA, afterA}
 use Rattle.rules.specs.StepB.{afterReqFalls, afterRstRises, inOrder, afterB, atReq, beyond}
@@ -26,14 +25,12 @@ use Rattle.rules.specs.Answers.{Stepped, answerOf, answerBytes}
 use Rattle.rules.specs.Step.{ended, refused, done, access, joined, singleTicks, ticksTaken, stepEvent, stepDecoded, step, answer}
 use Rattle.rules.specs.declared.codes.Code.{Code}
 use Rattle.rules.specs.declared.codes.Code.the-variants.{Done, BeyondLimit}
-use Rattle.rules.specs.declared.chip.Sequencer.{Sequencer}
 use Rattle.rules.specs.declared.chip.Stack.{Stack}
 use Rattle.rules.specs.declared.map.Register.{Register}
 use Rattle.rules.specs.declared.map.Register.the-variants.{SCSISEQ, SXFRCTL0, SXFRCTL1, SCSISIGI, SCSISIGO, SCSIRATE, SELID, SCSIID, SCSIDAT, SCSIBUS, STCNT0, STCNT1, STCNT2, SSTAT0, CLRSINT0, SSTAT1, CLRSINT1, SSTAT2, SSTAT3, SCSITEST, SSTAT4, CLRSERR, SIMODE0, SIMODE1, DMACNTRL0, DMACNTRL1, DMASTAT, FIFOSTAT, DMADATA, BRSTCNTRL, REV, STACK, TEST, ID}
 use Rattle.rules.specs.declared.map.Mapped.{Mapped}
 use Rattle.rules.specs.declared.map.Mapped.the-variants.{Present, Missing}
 use Rattle.rules.specs.declared.registers.Dmacntrl1.{Dmacntrl1}
-use Rattle.rules.specs.declared.registers.Registers.{Registers}
 use Rattle.rules.specs.declared.records.Decoded.{Decoded}
 use Rattle.rules.specs.declared.records.Decoded.the-variants.{Well, Ill}
 use Rattle.rules.specs.declared.records.Event.{Event}

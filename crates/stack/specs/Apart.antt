@@ -20,7 +20,6 @@ use Rattle.rules.specs.declared.registers.Dmacntrl1.{Dmacntrl1}
 use Rattle.rules.specs.declared.registers.Registers.{Registers}
 use Rattle.stack.specs.declared.lent.Access.{Access}
 use Rattle.stack.specs.declared.lent.Access.the-variants.{ReadStack, WriteStack, ReadDmacntrl1, WriteDmacntrl1}
-use Rattle.stack.specs.declared.lent.Accessed.{Accessed}
 
 abbrev pub registersWithBits : Dmacntrl1 → Registers → Registers
 registersWithBits d r =

@@ -2,7 +2,6 @@
 use Prim.Native.Nat.{ℕ}
 use mathlib.Core.Bool.{cond}
 use mathlib.Core.List.{List, [], _∷_}
-use mathlib.Core.Option.{Option, none, some}
 use lib.Dec.{eqb}
 use lib.ListN.{replicate}
 use Rattle.rules.specs.State.{State, powerReset}
@@ -21,7 +20,6 @@ use Rattle.stack.specs.Accesses.{stackAccessed}
 use Rattle.stack.specs.Apart.{withApart, bytesWith}
 use Rattle.stack.specs.declared.lent.Access.{Access}
 use Rattle.stack.specs.declared.lent.Access.the-variants.{ReadStack, WriteStack, ReadDmacntrl1, WriteDmacntrl1}
-use Rattle.stack.specs.declared.lent.Accessed.{Accessed}
 
 -- the chip, whose own stack and bits of 353h nobody looks at, and the bits and the stack that count
 pub record Box : Type 0 where

@@ -1,12 +1,11 @@
 -- The call on the bytes of a stack and of 353h's bits is the access on that stack and those bits: what a box that holds them apart does
 -- (`Box` of `stack`) is done by the call, and every other record is refused.
-use Prim.Native.Nat.{ℕ, _+_}
-use mathlib.Core.Path.{_≡_, refl, ap, sym, _∙_}
+use Prim.Native.Nat.{ℕ}
+use mathlib.Core.Path.{_≡_, refl, ap, _∙_}
 use mathlib.Core.Bool.{Bool, true, false, _&&_, cond}
-use mathlib.Core.List.{List, [], _∷_, _++_}
+use mathlib.Core.List.{[], _∷_}
 use native.Mathlib.Omega.{arith}
 use borrow.Author.Tests.{eq-eqb}
-use lib.Dec.{eqb}
 use lib.ListN.{length, replicate, length-append}
 use lib.Seq.{take-at, getD-at}
 use Rattle.rules.specs.Registers.{dmacntrl1Of, dmacntrl1Byte}
@@ -15,16 +14,16 @@ use Rattle.rules.specs.Chips.{stackView}
 use Rattle.rules.proofs.Computes.{computes}
 use Rattle.rules.specs.declared.chip.Stack.{Stack}
 use Rattle.rules.specs.declared.records.Decoded.{Decoded}
-use Rattle.rules.specs.declared.records.Decoded.the-variants.{Well, Ill}
+use Rattle.rules.specs.declared.records.Decoded.the-variants.{Well}
 use Rattle.rules.specs.declared.registers.Dmacntrl1.{Dmacntrl1}
 use Rattle.stack.specs.Accesses.{stackAccessed}
 use Rattle.stack.specs.Apart.{accessEvent, accessRecord, AccessFits}
-use Rattle.stack.specs.Box.{Doing, Accesses, doingEvent, doing}
+use Rattle.stack.specs.Box.{Accesses, doingEvent, doing}
 use Rattle.stack.specs.declared.lent.Access.{Access}
 use Rattle.stack.specs.declared.lent.Access.the-variants.{ReadStack, WriteStack, ReadDmacntrl1, WriteDmacntrl1}
 use Rattle.stack.specs.declared.lent.Accessed.{Accessed}
 use Rattle.stack.proofs.AsBefore.{decode-access}
-use Rattle.stackhost.specs.StackCalls.{StackCall, stackIn, stackBytes, stackCall, callRefused, callDone, foundIn, callOf, stackCalled}
+use Rattle.stackhost.specs.StackCalls.{stackIn, stackBytes, stackCall, callRefused, callDone, foundIn, callOf, stackCalled}
 
 -- what is packed is read back
 bits-back : (p e : Bool) → dmacntrl1Of (dmacntrl1Byte (record { pwrdwn = p; enstk32 = e }) 0) ≡ record { pwrdwn = p; enstk32 = e }

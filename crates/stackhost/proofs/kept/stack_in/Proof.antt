@@ -1,5 +1,4 @@
 use borrow.Author.Needs.{needs}
-use native.Mathlib.Omega.{arith}
 use Rattle.stackhost.proofs.kept.stack_in.Statement.{statement}
 use Rattle.stackhost.proofs.kept.stack_in.Tie as tie
 
