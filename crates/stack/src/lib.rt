@@ -5,6 +5,8 @@ ghost use Prim.Native.Nat.{_+_, _%_};
 ghost use Rattle.rules.specs.Stack.{stackSize, stackPlace, stackByte, pointerAfter, stackRead, stackWritten, pointed};
 use rules::chip::Stack;
 
+pub mod lent;
+
 // The place that a pointer names.
 pub fn place_of(enstk32: bool, pointer: u8) -> u8
     ensures { λ r. ⌜ r ≡ pointer % stackSize enstk32 ⌝ }
