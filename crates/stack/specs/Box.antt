@@ -31,8 +31,8 @@ pub record Box : Type 0 where
 abbrev pub whole : Box → State
 whole b = withApart (b .control) (b .stack) (b .chip)
 
--- what the box does with a record: an access goes to the lent functions and the chip stays as it is; power reset goes to the step and zeroes
--- the stack and the bits too; every other record goes to the step
+-- what the box does with a record: an access goes to the lent functions and the chip stays as it is; power reset goes to the step
+-- and zeroes -- the stack and the bits too; every other record goes to the step
 pub data Doing : Type 0 where
   Accesses : Access → Doing
   Resets : Doing
@@ -41,7 +41,8 @@ pub data Doing : Type 0 where
 unfoldable pub doingEvent : Event → Doing
 doingEvent PowerReset = Resets
 doingEvent (Write offset value) =
-    cond (eqb offset (offsetOf STACK)) (Accesses (WriteStack value)) (cond (eqb offset (offsetOf DMACNTRL1)) (Accesses (WriteDmacntrl1 value)) Steps)
+    cond (eqb offset (offsetOf STACK)) (Accesses (WriteStack value))
+    (cond (eqb offset (offsetOf DMACNTRL1)) (Accesses (WriteDmacntrl1 value)) Steps)
 doingEvent (Read offset) =
     cond (eqb offset (offsetOf STACK)) (Accesses ReadStack) (cond (eqb offset (offsetOf DMACNTRL1)) (Accesses ReadDmacntrl1) Steps)
 doingEvent (WordWrite word) = Steps

@@ -1,5 +1,5 @@
--- R-4: the call of a host program that holds the stack apart: "a 33-byte stack record and the byte for 353h", an event record of four bytes,
--- and one byte for the value.
+-- R-4: the call of a host program that holds the stack apart: "a 33-byte stack record and the byte for 353h",
+-- an event record of four bytes, and one byte for the value.
 use Prim.Native.Nat.{ℕ}
 use mathlib.Core.Bool.{_&&_, cond}
 use mathlib.Core.List.{List, [], _∷_, _++_}
