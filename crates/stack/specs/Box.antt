@@ -32,7 +32,7 @@ abbrev pub whole : Box → State
 whole b = withApart (b .control) (b .stack) (b .chip)
 
 -- what the box does with a record: an access goes to the lent functions and the chip stays as it is; power reset goes to the step
--- and zeroes -- the stack and the bits too; every other record goes to the step
+-- and zeroes the stack and the bits too; every other record goes to the step
 pub data Doing : Type 0 where
   Accesses : Access → Doing
   Resets : Doing
