@@ -25,6 +25,11 @@ pub fn zeroed(m: &mut Image, at: usize, n: usize)
     requires { ⌜ at + n ≤ imageSize ⌝ }
     ensures { λ _. ⌜ now (m .exit) ≡ paste (now (m .entry)) at (replicate n 0) n ⌝ }
 {
+    // One place is the frequent case, and the loop becomes a call.
+    if n == 1 {
+        m[at] = 0;
+        return;
+    }
     for i in 0..n {
         m[at + i] = 0;
     }
