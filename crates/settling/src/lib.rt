@@ -22,11 +22,12 @@ use rules::chip::Conditions;
 pub mod moves;
 pub mod shakes;
 
-// What settling tells of: the moves, the ACKs, and the bytes sent with their count.
+// What settling tells of: the bytes sent with their count, the moves, the ACKs. The bytes stand first, so that the whole is copied by
+// words that were stored as such.
 pub struct Told {
+    pub sent: Sent,
     pub moves: u8,
     pub acks: u8,
-    pub sent: Sent,
 }
 
 // "Handshake, if SCSIEN, path, matched."
