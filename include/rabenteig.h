@@ -43,6 +43,33 @@ size_t rabenteig_run(uint8_t *image, size_t image_length, const uint8_t *records
                      size_t answers_length);
 
 /*
+ * Words through the data port in one call, for a processor's repeated word instructions. This is rabenteig_step with a word write,
+ * or a word read, for each of the words one after another, up to the first that is refused: the same image, the same bytes sent,
+ * the same code. The refused word is not done and changes nothing. Both calls are in an archive of their own (the crate wordhost).
+ *
+ *   data        two bytes for each word asked for, a word's low byte first: a write call only reads them, a read call stores there
+ *               what it has read and leaves the part past the words done as it was
+ *   words       the number of words asked for
+ *   sent        eight bytes for each word asked for, or more: gets the bytes that Normal-mode ACKs sent, in order; the part past
+ *               the last of them stays as it was. A read call sends nothing and has no such buffer
+ *   done        gets the number of words done, whatever the code
+ *   sent_count  gets the number of bytes sent, whatever the code
+ *
+ * Returns 0 if all words were done, also where none was asked for; else the code of the refusal that stopped them: 3 if the port is
+ * shut, 4 if the host FIFO lacks room for the word (a write call), 5 if it lacks the word (a read call). The words done before it
+ * stay done.
+ *
+ * Code 1 is returned before any word, no byte of the image or of a buffer changes, and done and sent_count get 0
+ * - if the image is refused;
+ * - if data is not of exactly two bytes for each word;
+ * - if sent is of fewer than eight bytes for each word.
+ * This holds for every number of words: one of which the double or the eightfold is past the largest size_t fits no buffer.
+ */
+uint8_t rabenteig_write_words(uint8_t *image, size_t image_length, const uint8_t *data, size_t data_length, size_t words, uint8_t *sent,
+                              size_t sent_length, size_t *done, size_t *sent_count);
+uint8_t rabenteig_read_words(uint8_t *image, size_t image_length, uint8_t *data, size_t data_length, size_t words, size_t *done);
+
+/*
  * For a program that holds the stack apart from the chip: one access to 35Dh or 353h, on the stack alone.
  *
  *   stack    33 bytes: the thirty-two of the stack, place 0 first, and then the pointer

@@ -1,0 +1,1 @@
+pub mod OverWords  -- the string calls over an image
