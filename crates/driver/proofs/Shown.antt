@@ -143,7 +143,7 @@ module _ (s : State) (x : Exchange) (i : Ranged s) (h : isAnswered x ≡ true �
   come-shown allows = rw refused-shown
 
   -- a value is shown where the call was answered
-  value-shown : isRefusal ((step s (handed x)) .code) ≡ false → valueOf x ≡ (step s (handed x)) .value
+  pub value-shown : isRefusal ((step s (handed x)) .code) ≡ false → valueOf x ≡ (step s (handed x)) .value
   unfolding ended
   value-shown =
       by-answer (λ t. isRefusal ((step s (cond t (x .bytes) [])) .code) ≡ false → valueOf x ≡ (step s (cond t (x .bytes) [])) .value)
