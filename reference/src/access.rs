@@ -306,7 +306,7 @@ impl Chip {
 
     /// "data port shut: ENDMA 0, DMA/PIO 1, width or direction wrong".
     #[inline]
-    fn port_shut(&self, eight_bit: bool, write: bool) -> bool {
+    pub fn port_shut(&self, eight_bit: bool, write: bool) -> bool {
         let open = ENDMA | if eight_bit { EIGHT_BIT } else { 0 } | if write { WRITE } else { 0 };
         self.dmacntrl0 & (ENDMA | DMA_NOT_PIO | EIGHT_BIT | WRITE) != open
     }

@@ -72,6 +72,31 @@ impl<const SIZE: usize> Fifo<SIZE> {
         byte
     }
 
+    /// Stores the bytes in their order; the caller has looked for room.
+    #[inline]
+    pub fn put_all(&mut self, bytes: &[u8]) {
+        debug_assert!(bytes.len() <= self.room());
+        let start = (self.oldest + self.count) & (SIZE - 1);
+        let (before, after) = bytes.split_at(bytes.len().min(SIZE - start));
+        self.ring[start..start + before.len()].copy_from_slice(before);
+        self.ring[..after.len()].copy_from_slice(after);
+        self.count += bytes.len();
+    }
+
+    /// Takes as many bytes as there are places, the oldest first; the caller
+    /// has looked for so many.
+    #[inline]
+    pub fn take_all(&mut self, places: &mut [u8]) {
+        let length = places.len();
+        debug_assert!(length <= self.count);
+        let start = self.oldest & (SIZE - 1);
+        let (before, after) = places.split_at_mut(length.min(SIZE - start));
+        before.copy_from_slice(&self.ring[start..start + before.len()]);
+        after.copy_from_slice(&self.ring[..after.len()]);
+        self.oldest = (start + length) & (SIZE - 1);
+        self.count -= length;
+    }
+
     /// The bytes held, oldest first, before and after the end of the ring.
     #[inline]
     fn parts(&self) -> (&[u8], &[u8]) {

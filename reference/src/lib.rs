@@ -18,6 +18,7 @@ pub mod sequencer;
 pub mod settling;
 pub mod streams;
 pub mod ticks;
+pub mod words;
 
 pub use chip::Chip;
 

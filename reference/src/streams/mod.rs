@@ -8,8 +8,10 @@ mod pio;
 mod probing;
 mod runs;
 mod selections;
+mod starts;
 
 pub use benchmarks::{benchmark_record, Benchmark};
+pub use starts::{start, starts};
 
 use crate::chip::Chip;
 use crate::random::Random;
