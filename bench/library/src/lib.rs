@@ -1,6 +1,7 @@
-//! The second implementation as a C program calls it, in the same way as `rabenteig_step` and `rabenteig_run`.
+//! The second implementation as a C program calls it, in the same way as the functions of `rabenteig.h`.
 
 use reference::image::{run_image, step_image};
+use reference::words::{read_words_image, write_words_image};
 use std::slice::{from_raw_parts, from_raw_parts_mut};
 
 /// A slice of a C program, which may give none for no bytes.
@@ -57,4 +58,53 @@ pub unsafe extern "C" fn reference_run(
         lent(records, records_length),
         lent_for_writing(answers, answers_length),
     )
+}
+
+/// Words written at the port of an image's chip, up to the first refusal; the code of that refusal, else 0.
+///
+/// # Safety
+/// Each pointer leads to as many bytes as its length says, `done` and `sent_count` to a number each, and no two overlap.
+#[no_mangle]
+pub unsafe extern "C" fn reference_write_words(
+    image: *mut u8,
+    image_length: usize,
+    data: *const u8,
+    data_length: usize,
+    words: usize,
+    sent: *mut u8,
+    sent_length: usize,
+    done: *mut usize,
+    sent_count: *mut usize,
+) -> u8 {
+    let transfer = write_words_image(
+        lent_for_writing(image, image_length),
+        lent(data, data_length),
+        words,
+        lent_for_writing(sent, sent_length),
+    );
+    *done = transfer.done;
+    *sent_count = transfer.sent;
+    transfer.code as u8
+}
+
+/// Words read at the port of an image's chip, up to the first refusal; the code of that refusal, else 0.
+///
+/// # Safety
+/// Each pointer leads to as many bytes as its length says, `done` to a number, and no two overlap.
+#[no_mangle]
+pub unsafe extern "C" fn reference_read_words(
+    image: *mut u8,
+    image_length: usize,
+    data: *mut u8,
+    data_length: usize,
+    words: usize,
+    done: *mut usize,
+) -> u8 {
+    let transfer = read_words_image(
+        lent_for_writing(image, image_length),
+        lent_for_writing(data, data_length),
+        words,
+    );
+    *done = transfer.done;
+    transfer.code as u8
 }
