@@ -8,3 +8,6 @@ pub mod Inbound  -- inbound-joins, inbound-appends, inbound-byte: bytes taken in
 pub mod Blocks  -- left-joins, joins-out, joins-in: two blocks settle as one
 pub mod Words  -- write-block, read-block: the words of a block are their single events
 pub mod Keeps  -- strung-keeps: what words leave
+pub mod WordMoves  -- written-moves, rest-moves, read-moves: the moves of one word access
+pub mod Ceiling  -- write-ceiling, write-sixteen, write-at-rest, read-ceiling: the moves of a string transfer, and of its call
+pub mod Reached  -- starts that reach each bound

@@ -1,4 +1,5 @@
--- R-3 as definitions, in the order in which they are read.
+-- R-3 and R-12 as definitions, in the order in which they are read.
 pub mod Words
 pub mod Calls
 pub mod Blocks
+pub mod Moves
