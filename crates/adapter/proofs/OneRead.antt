@@ -5,7 +5,7 @@ use mathlib.Core.List.{List, ◌++◌}
 use Prim.Native.Nat.{ℕ, ◌*◌, ◌-◌}
 use lib.ListN.{take, drop}
 use Rattle.rules.specs.declared.chip.Chip.{Chip}
-use Rattle.hex.specs.Hex.{lines_of}
+use Rattle.hexlines.specs.Hex.{lines_of}
 use Rattle.adapter.specs.declared.Printed.{Printed}
 use Rattle.adapter.specs.declared.Received.{Received}
 use Rattle.adapter.specs.Texts.{stepped, printed, answered, IsPrinted, left_over, tail_from, IsReceived, with_front, whole_end, whole, IsAfterRead}

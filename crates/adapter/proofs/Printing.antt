@@ -8,7 +8,7 @@ use lib.Seq.{take_at}
 use Rattle.rules.specs.Chips.{view, chip_of}
 use Rattle.rules.specs.Step.{after, answers}
 use Rattle.rules.specs.declared.chip.Chip.{Chip}
-use Rattle.hex.specs.Hex as hex
+use Rattle.hexlines.specs.Hex as hex
 use Rattle.step.specs.declared.Ran.{Ran}
 use Rattle.step.specs.Runs.{IsRun, records_of, stepped_in, records_in, joined}
 use Rattle.adapter.specs.Texts.{stepped, answered, printed, IsPrinted}

@@ -3,7 +3,7 @@ use Rattle.std.specs.Prelude.{ℕ, ◌+◌, ◌*◌, ◌-◌, ◌/◌, ◌%◌, 
 use Rattle.rules.specs.Chips.{view, chip_of}
 use Rattle.rules.specs.Step.{after, answers}
 use Rattle.rules.specs.declared.chip.Chip.{Chip}
-use Rattle.hex.specs.Hex.{lines_of}
+use Rattle.hexlines.specs.Hex.{lines_of}
 use Rattle.step.specs.Runs.{records_of, records_in, joined}
 use Rattle.adapter.specs.declared.Printed.{Printed}
 use Rattle.adapter.specs.declared.Received.{Received}

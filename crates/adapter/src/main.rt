@@ -1,4 +1,6 @@
 // Event records on standard input as raw bytes, and a line of hex digits for each answer on standard output.
+#![tactic(auto)]
+
 ghost use Rattle.std.specs.Prelude.{◌≡◌, ◌++◌, ◌*◌, ◌≤◌, drop, length, get_or};
 ghost use Rattle.adapter.specs.Texts.{IsPrinted, IsReceived, IsAfterRead, answered, answers_size, input_size, left_over, nothing, stepped, tail_from, text_size};
 
@@ -13,21 +15,21 @@ const ANSWERS_SIZE: usize = 16400;
 const TEXT_SIZE: usize = 33825;
 
 // The chip after some records, and the number of bytes of their lines.
-#[derive(Drop)]
+#[derive(Clone, Copy)]
 pub struct Printed {
     pub chip: Chip,
     pub size: usize,
 }
 
 // What one read leaves: how many bytes are held, and whether the input is at its end.
-#[derive(Drop)]
+#[derive(Clone, Copy)]
 pub struct Received {
     pub held: usize,
     pub is_end: bool,
 }
 
 // What came from outside, the read and whether the lines were written, and what follows: the chip, the bytes that wait, whether to go on.
-#[derive(Drop)]
+#[derive(Clone, Copy)]
 pub struct AfterRead {
     pub received: Received,
     pub is_written: bool,
@@ -44,7 +46,7 @@ fn print(c: Chip, records: &[u8], answers: &mut [u8], text: &mut [u8]) -> Printe
     ensures answers_after { answers.new ≡ answered c records.now ++ drop (16 * stepped records.now) answers.old }
 {
     let ran = step::run::run(c, records, answers);
-    let size = hex::print(&answers[..ANSWER_SIZE * ran.count], text);
+    let size = hexlines::print(&answers[..ANSWER_SIZE * ran.count], text);
     let chip = ran.chip;
     Printed {
         chip: chip,

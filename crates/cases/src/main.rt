@@ -1,4 +1,6 @@
 // The worked cases of the documents, on the proved step.
+#![tactic(auto)]
+
 fn main() {
     stored::run();
 }

@@ -1,4 +1,6 @@
 // A chip value into the bytes of one array and out of them.
+#![tactic(auto)]
+
 mod put;
 mod taken;
 

@@ -1,4 +1,6 @@
 // The transfer counter: document 01, "The counter reads and writes as 24 bits, 348h lowest."; its step is R-6's.
+#![tactic(auto)]
+
 ghost use Rattle.std.specs.Prelude.{◌≡◌, ◌<◌};
 ghost use Rattle.rules.specs.Counter.{counter_size, stepped_to, counter_step, counter_byte};
 ghost use Rattle.rules.specs.declared.counts.Direction.TheVariants.{Up, Down};

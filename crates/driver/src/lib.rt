@@ -1,4 +1,6 @@
 // Demand 3 over what a driver has in its hands; the promise stands in specs/DemandThree.antt, its proof in proofs/.
+#![tactic(auto)]
+
 ghost use Rattle.std.specs.Prelude.{◌≡◌};
 ghost use Rattle.driver.specs.Exchanges.{bytes_taken};
 

@@ -1,6 +1,6 @@
 // What changed on the bus in one event, found all at once; quiet is the number of quiet ticks after it.
 
-#[derive(Drop)]
+#[derive(Clone, Copy)]
 pub struct Edges {
     pub reqfalls: bool,
     pub rstrises: bool,

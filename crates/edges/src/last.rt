@@ -1,6 +1,6 @@
 // What was seen at the end of the last event: all of it that step B asks for.
 
-#[derive(Drop)]
+#[derive(Clone, Copy)]
 pub struct Before {
     pub rst: bool,
     pub req: bool,
@@ -8,7 +8,7 @@ pub struct Before {
 }
 
 // The bytes that it is read off: 340h, 343h, RST, the lines in the order of 343h, and the sequencer's phase.
-#[derive(Drop)]
+#[derive(Clone, Copy)]
 pub struct Seen {
     pub seq: u8,
     pub sig: u8,

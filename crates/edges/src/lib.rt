@@ -1,4 +1,6 @@
 // Step B, "Edges, in this order", over the chip in the bytes of one array: the five steps of document 01.
+#![tactic(auto)]
+
 ghost use Rattle.std.specs.Prelude.{◌≡◌, ◌&&◌};
 ghost use Rattle.rules.specs.Seen.{rst_seen, req_seen, mismatched};
 ghost use Rattle.image.specs.Image.{image_of, state_at, IsImage};

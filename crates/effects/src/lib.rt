@@ -1,4 +1,6 @@
 // A, "The event's own effect", in place: the checks of an access, and what it does.
+#![tactic(auto)]
+
 ghost use Rattle.std.specs.Prelude.{◌≡◌};
 ghost use Rattle.rules.specs.Codes.{refused_value, mapped_code, mapped_value};
 ghost use Rattle.rules.specs.declared.map.Mapped.TheVariants.{Missing};
@@ -16,7 +18,7 @@ mod scsidat;
 pub mod writing;
 
 // What A hands on: the code, the value and the ticks of the event, and whether the answer is ready, since it was refused.
-#[derive(Drop)]
+#[derive(Clone, Copy)]
 pub struct Acted {
     pub code: Code,
     pub value: u16,

@@ -16,14 +16,14 @@ use settling::Told;
 pub const UNREACHED: u32 = 16777216;
 
 // The ticks that are left, and how many came since the chip was copied.
-#[derive(Drop)]
+#[derive(Clone, Copy)]
 pub struct Lap {
     pub left: u32,
     pub since: u32,
 }
 
 // Whether a tick that does more than count is next; the ticks after it, and those since the copy, it included.
-#[derive(Drop)]
+#[derive(Clone, Copy)]
 pub struct Ahead {
     pub more: bool,
     pub left: u32,

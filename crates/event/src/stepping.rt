@@ -17,7 +17,7 @@ use rules::codes::Code;
 use settling::Told;
 
 // What an event gives beside the new state; the bytes sent by value with their count.
-#[derive(Drop)]
+#[derive(Clone, Copy)]
 pub struct Outcome {
     pub code: Code,
     pub value: u16,
@@ -27,7 +27,7 @@ pub struct Outcome {
 }
 
 // What a record gives: the sixteen bytes of its answer, and its code.
-#[derive(Drop)]
+#[derive(Clone, Copy)]
 pub struct Reply {
     pub code: Code,
     pub answer: [u8; 16],

@@ -2,7 +2,7 @@
 ghost use Rattle.std.specs.Prelude.{◌≡◌, [], ◌∷◌, ◌++◌, ◌+◌, ◌<◌, ◌≤◌};
 ghost use Rattle.fifos.specs.Fifos.{sent_view, sent_of, SentTidy};
 
-#[derive(Drop)]
+#[derive(Clone, Copy)]
 pub struct Sent {
     pub bytes: [u8; 8],
     pub count: usize,

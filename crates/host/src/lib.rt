@@ -1,4 +1,6 @@
 // The exported functions for a host program: the chip is handed over as the bytes of its image.
+#![tactic(auto)]
+
 ghost use Rattle.host.specs.ImageCalls.{IsImageCall, IsImageRun};
 
 use crate::over::step_over;

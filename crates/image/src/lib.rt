@@ -1,4 +1,6 @@
 // The chip in the bytes of one array, changed in place.
+#![tactic(auto)]
+
 pub mod bits;
 pub mod bus;
 pub mod bytes;

@@ -1,4 +1,6 @@
 // Bits out of a number, eight bits as a byte, the smaller of two; in proofs/ the laws on bits, lists and tables that every crate cites.
+#![tactic(auto)]
+
 ghost use Rattle.std.specs.Prelude.{◌≡◌, min};
 ghost use Rattle.rules.specs.Numbers.{bit, byte_of};
 

@@ -1,4 +1,6 @@
 // The register map: document 01, "357h, 359h, 35Ah, 35Bh are absent".
+#![tactic(auto)]
+
 ghost use Rattle.std.specs.Prelude.{◌≡◌, cond};
 ghost use Rattle.rules.specs.Map.{offset_of};
 ghost use Rattle.rules.specs.declared.map.Mapped.TheVariants.{Present};

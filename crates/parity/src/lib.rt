@@ -1,4 +1,6 @@
 // The ones of a byte and its parity. Document 01: "Parity driven makes the ones odd."
+#![tactic(auto)]
+
 ghost use Rattle.std.specs.Prelude.{◌≡◌, ◌+◌};
 ghost use Rattle.rules.specs.Numbers.{ones, one, even};
 

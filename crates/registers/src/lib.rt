@@ -1,4 +1,6 @@
 // The stored registers as bytes, and SSTAT3.
+#![tactic(auto)]
+
 ghost use Rattle.std.specs.Prelude.{◌≡◌};
 ghost use Rattle.registers.specs.OffsetCount.{sstat3_of};
 

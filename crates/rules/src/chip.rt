@@ -2,20 +2,20 @@
 use crate::records::Lines;
 use crate::registers::Registers;
 
-#[derive(Drop)]
+#[derive(Clone, Copy)]
 pub struct HostFifo {
     pub bytes: [u8; 128],
     pub count: usize,
 }
 
-#[derive(Drop)]
+#[derive(Clone, Copy)]
 pub struct ScsiFifo {
     pub bytes: [u8; 8],
     pub count: usize,
 }
 
 // The data path; ack is the automatic ACK, last the byte last sent.
-#[derive(Drop)]
+#[derive(Clone, Copy)]
 pub struct DataPath {
     pub host: HostFifo,
     pub scsi: ScsiFifo,
@@ -26,7 +26,7 @@ pub struct DataPath {
 }
 
 // The status bits that are kept; PHASEMIS is live and not among them.
-#[derive(Drop)]
+#[derive(Clone, Copy)]
 pub struct Status {
     pub spiordy: bool,
     pub scsirsti: bool,
@@ -39,7 +39,7 @@ pub struct Status {
 }
 
 // The interrupt latches.
-#[derive(Drop)]
+#[derive(Clone, Copy)]
 pub struct Latches {
     pub spiordy: bool,
     pub scsirsti: bool,
@@ -50,14 +50,14 @@ pub struct Latches {
 }
 
 // The stack's bytes and the pointer of 353h.
-#[derive(Drop)]
+#[derive(Clone, Copy)]
 pub struct Stack {
     pub bytes: [u8; 32],
     pub pointer: u8,
 }
 
 // R-1: where the sequencer stands; `phaseNumber` in specs/Seen.antt gives each its number.
-#[derive(Drop)]
+#[derive(Clone, Copy)]
 pub enum Phase {
     Idle,
     Waiting,
@@ -70,7 +70,7 @@ pub enum Phase {
 }
 
 // SELDO, SELDI and SELINGO of 34Bh and SELTO of 34Ch: the statuses, or their latches.
-#[derive(Drop)]
+#[derive(Clone, Copy)]
 pub struct Selection {
     pub seldo: bool,
     pub seldi: bool,
@@ -80,7 +80,7 @@ pub struct Selection {
 
 // The sequencer of R-1; ticks: those spent in the phase; noted: 34Bh bit 5 was written while SELDI was 1; selid: the byte that
 // others drove when the chip was last reselected.
-#[derive(Drop)]
+#[derive(Clone, Copy)]
 pub struct Sequencer {
     pub phase: Phase,
     pub ticks: u32,
@@ -91,7 +91,7 @@ pub struct Sequencer {
 }
 
 // What the sequencer may change: itself, ENSELO (340h bit 6), ATN (343h bit 4) and the quiet ticks.
-#[derive(Drop)]
+#[derive(Clone, Copy)]
 pub struct Sequenced {
     pub sequencer: Sequencer,
     pub enselo: bool,
@@ -101,7 +101,7 @@ pub struct Sequenced {
 
 // keptbad: the parity of the last inbound byte was bad (R-2); quiet: ticks for which BSY and SEL were not seen, up to 8;
 // identity: the place in the ID string.
-#[derive(Drop)]
+#[derive(Clone, Copy)]
 pub struct Chip {
     pub lines: Lines,
     pub registers: Registers,
@@ -116,7 +116,7 @@ pub struct Chip {
 }
 
 // What settling looks at and does not change.
-#[derive(Drop)]
+#[derive(Clone, Copy)]
 pub struct Conditions {
     pub path: bool,
     pub enabled: bool,

@@ -1,5 +1,5 @@
 // Document 01, "Codes": one name for each code. `number_of` in specs/Codes.antt gives its number.
-#[derive(Drop)]
+#[derive(Clone, Copy)]
 pub enum Code {
     Done,
     Malformed,

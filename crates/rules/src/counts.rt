@@ -1,12 +1,12 @@
 // The counter's step (R-6): the way it goes, and what it says besides the new value.
-#[derive(Drop)]
+#[derive(Clone, Copy)]
 pub enum Direction {
     Up,
     Down,
 }
 
 // passed: the counter came to its end, 0.
-#[derive(Drop)]
+#[derive(Clone, Copy)]
 pub struct CounterStep {
     pub value: u32,
     pub passed: bool,

@@ -1,4 +1,6 @@
 // The plain data types that every crate shares. What is right is said in specs/, the paper's rules one by one.
+#![tactic(auto)]
+
 ghost use Rattle.std.specs.Prelude.{◌≡◌};
 ghost use Rattle.rules.specs.Codes.{number_of};
 

@@ -1,5 +1,5 @@
 // Document 001, Table 4-2: the registers by name. `offset_of` in specs/Map.antt gives each its offset from 340h.
-#[derive(Drop)]
+#[derive(Clone, Copy)]
 pub enum Register {
     SCSISEQ,
     SXFRCTL0,
@@ -38,7 +38,7 @@ pub enum Register {
 }
 
 // What stands at an offset in one direction: a register, or nothing (code 2).
-#[derive(Drop)]
+#[derive(Clone, Copy)]
 pub enum Mapped {
     Present(Register),
     Missing,

@@ -2,7 +2,7 @@
 use crate::codes::Code;
 
 // The lines that others drive: the payload of kind 5, in its order. `byte` is the eight data lines.
-#[derive(Drop)]
+#[derive(Clone, Copy)]
 pub struct Lines {
     pub byte: u8,
     pub parity: bool,
@@ -18,7 +18,7 @@ pub struct Lines {
 }
 
 // Kinds 0 to 6.
-#[derive(Drop)]
+#[derive(Clone, Copy)]
 pub enum Event {
     PowerReset,
     Write { offset: u8, value: u8 },
@@ -30,14 +30,14 @@ pub enum Event {
 }
 
 // A record of four bytes that is well formed, or not.
-#[derive(Drop)]
+#[derive(Clone, Copy)]
 pub enum Decoded {
     Well(Event),
     Ill,
 }
 
 // The fields of an answer, in its order.
-#[derive(Drop)]
+#[derive(Clone, Copy)]
 pub struct Answer {
     pub code: Code,
     pub irq: bool,

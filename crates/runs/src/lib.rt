@@ -1,4 +1,6 @@
 // What document 01 allows a driver in a run, so that a host can check its own records; the theorems stand in proofs/.
+#![tactic(auto)]
+
 ghost use Rattle.std.specs.Prelude.{◌≡◌};
 ghost use Rattle.runs.specs.Run.{keeps_run, write_allowed, run_allows};
 ghost use Rattle.runs.specs.Cut.{cut_value};

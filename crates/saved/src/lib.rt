@@ -1,4 +1,6 @@
 // Which images are accepted: the definition stands in specs/Accepted.antt.
+#![tactic(auto)]
+
 ghost use Rattle.std.specs.Prelude.{◌≡◌};
 ghost use Rattle.saved.specs.Accepted.{counts_fit, accepted};
 

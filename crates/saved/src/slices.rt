@@ -10,7 +10,7 @@ use rules::chip::Chip;
 use step::reset::{power_reset, tidied};
 
 // What a read returns; where the image is refused, the chip of power reset stands beside the refusal.
-#[derive(Drop)]
+#[derive(Clone, Copy)]
 pub struct Loaded {
     pub accepted: bool,
     pub chip: Chip,

@@ -1,4 +1,6 @@
 // Step B whole: the edges of document 01, R-1's sequencer where it has something to do, and the phase.
+#![tactic(auto)]
+
 ghost use Rattle.std.specs.Prelude.{◌≡◌};
 ghost use Rattle.edges.specs.Since.{beyond_since};
 ghost use Rattle.image.specs.Image.{image_of, state_at, IsImage};

@@ -1,4 +1,6 @@
 // C, settling, on the bytes of one array: "Repeat the first that is possible, until neither is".
+#![tactic(auto)]
+
 ghost use Rattle.std.specs.Prelude.{◌≡◌, false, ◌-◌, ◌≤◌};
 ghost use Rattle.rules.specs.StepC.{conditions, can_move};
 ghost use Rattle.image.specs.Image.{IsImage, state_at};
@@ -16,7 +18,7 @@ pub mod shakes;
 
 // What settling tells of: the bytes sent with their count, the moves, the ACKs. The bytes stand first, so that the whole is copied by
 // words that were stored as such.
-#[derive(Drop)]
+#[derive(Clone, Copy)]
 pub struct Told {
     pub sent: Sent,
     pub moves: u8,

@@ -43,7 +43,7 @@ pub fn read_dmacntrl1(control: Dmacntrl1, pointer: u8) -> u8
 }
 
 // An access to 35Dh or 353h, with the byte that is written.
-#[derive(Drop)]
+#[derive(Clone, Copy)]
 pub enum Access {
     ReadStack,
     WriteStack(u8),
@@ -52,7 +52,7 @@ pub enum Access {
 }
 
 // What it leaves of 353h and of the stack, and the value read, else 0.
-#[derive(Drop)]
+#[derive(Clone, Copy)]
 pub struct Accessed {
     pub control: Dmacntrl1,
     pub stack: Stack,

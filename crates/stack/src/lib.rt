@@ -1,5 +1,7 @@
 // The stack: document 01, "35Dh uses the place the pointer names, then the pointer goes up one, modulo 32 with ENSTK32, else
 // modulo 16 with bit 4 ignored and then 0."
+#![tactic(auto)]
+
 ghost use Rattle.std.specs.Prelude.{◌≡◌, ◌+◌, ◌%◌};
 ghost use Rattle.rules.specs.Stack.{stack_size, stack_place, stack_byte, pointer_after, stack_read, stack_written, pointed};
 

@@ -1,4 +1,6 @@
 // R-4: the exported function for a host program that holds the stack apart from the chip.
+#![tactic(auto)]
+
 ghost use Rattle.std.specs.Prelude.{◌≡◌, length};
 ghost use Rattle.rules.specs.declared.records.Event.TheVariants.{Write, Read};
 ghost use Rattle.stack.specs.Box.{doing_event, doing};
@@ -17,7 +19,7 @@ const STACK_OFFSET: u8 = 0x1D;
 const DMACNTRL1_OFFSET: u8 = 0x13;
 
 // The access that a record asks for; every other record is for the step.
-#[derive(Drop)]
+#[derive(Clone, Copy)]
 pub enum Found {
     Here(Access),
     Elsewhere,

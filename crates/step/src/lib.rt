@@ -1,4 +1,6 @@
 // The step: a chip by value, a record and a lent answer buffer.
+#![tactic(auto)]
+
 ghost use Rattle.std.specs.Prelude.{◌≡◌, length};
 ghost use Rattle.rules.specs.Ranges.{Tidy};
 ghost use Rattle.step.specs.Outcomes.{IsStep};
@@ -16,14 +18,14 @@ use rules::codes::Code;
 use rules::records::ANSWER_SIZE;
 
 // What a call returns.
-#[derive(Drop)]
+#[derive(Clone, Copy)]
 pub struct Returned {
     pub chip: Chip,
     pub code: Code,
 }
 
 // What a run of records returns: the chip, and how many were stepped.
-#[derive(Drop)]
+#[derive(Clone, Copy)]
 pub struct Ran {
     pub chip: Chip,
     pub count: usize,

@@ -1,6 +1,6 @@
 -- What a text counts up to: of its events, how many have the answer of the step stored beside them.
 use Rattle.std.specs.Prelude.{ℕ, ◌+◌, ◌%◌, ◌^◌, Bool, true, false, cond, List, [], ◌∷◌, length, take, ◌==◌, slice_index_or}
-use Rattle.hex.specs.Hex.{hex_of}
+use Rattle.hexlines.specs.Hex.{hex_of}
 use Rattle.rules.specs.State.{power_reset}
 use Rattle.rules.specs.Chips.{view, chip_of}
 use Rattle.rules.specs.Step.{step, answer}

@@ -1,8 +1,10 @@
 // Stored records and answers, run again on the proved step and compared.
 // A line "= name" starts a stream from power reset; a record in hex, a space and its answer in hex is an event;
 // what follows a second space, a line that starts with # and an empty line are comments.
+#![tactic(auto)]
+
 ghost use Rattle.std.specs.Prelude.{◌≡◌, length, if◌then◌else◌};
-ghost use Rattle.hex.specs.Hex.{line_of};
+ghost use Rattle.hexlines.specs.Hex.{line_of};
 ghost use Rattle.stored.specs.Tallies.{one_more, nothing_yet, next_line, after_stream, with_event, after_event, after_event_line, after_line, tally_of};
 
 use libc::STDOUT_FILENO;
@@ -14,7 +16,7 @@ mod words;
 use words::{line_end, next, record_of, word_end};
 
 // Where a comparison stands.
-#[derive(Drop)]
+#[derive(Clone, Copy)]
 struct Tally {
     chip: Chip,
     line: u64,
@@ -87,7 +89,7 @@ fn printed(answer: &[u8; 16]) -> [u8; 33]
     ensures { result ≡ line_of answer.now }
 {
     let mut text = [0u8; 33];
-    hex::print(answer, &mut text);
+    hexlines::print(answer, &mut text);
     text
 }
 

@@ -90,7 +90,7 @@ fn byte_at(text: &[u8], i: u8) -> u8
 }
 
 // A record's bytes: none where the text is no record.
-#[derive(Drop)]
+#[derive(Clone, Copy)]
 pub struct Named {
     pub bytes: [u8; 4],
     pub count: usize,

@@ -1,4 +1,6 @@
 // R-3: string port transfers, over the chip's bytes in one array and over a chip by value.
+#![tactic(auto)]
+
 use rules::chip::Chip;
 use rules::codes::Code;
 
@@ -10,7 +12,7 @@ pub mod write_call;
 pub mod writing;
 
 // What a call hands back: the words done, the bytes stored in the lent buffer, and the refusal that stopped it.
-#[derive(Drop)]
+#[derive(Clone, Copy)]
 pub struct Passed {
     pub done: usize,
     pub count: usize,
@@ -18,7 +20,7 @@ pub struct Passed {
 }
 
 // What a read call of a chip by value hands back: the chip, the words done, and the refusal that stopped it.
-#[derive(Drop)]
+#[derive(Clone, Copy)]
 pub struct Fetched {
     pub chip: Chip,
     pub done: usize,
@@ -26,7 +28,7 @@ pub struct Fetched {
 }
 
 // What a write call of a chip by value hands back: the chip, the words done, the number of bytes sent, and the refusal that stopped it.
-#[derive(Drop)]
+#[derive(Clone, Copy)]
 pub struct Written {
     pub chip: Chip,
     pub done: usize,

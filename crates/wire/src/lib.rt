@@ -1,4 +1,6 @@
 // Document 01, "Records": event records to events, answers to their sixteen bytes, by shifts and masks.
+#![tactic(auto)]
+
 ghost use Rattle.std.specs.Prelude.{◌≡◌, cond, ◌+◌, ◌*◌, ◌%◌};
 ghost use Rattle.rules.specs.Numbers.{one};
 ghost use Rattle.rules.specs.Records.{lines_of, payload_of, fields_of, decode};

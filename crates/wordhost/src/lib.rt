@@ -1,4 +1,6 @@
 // R-3: the exported string calls, in an archive of their own: the run of records of `host` is compiled apart from them.
+#![tactic(auto)]
+
 ghost use Rattle.std.specs.Prelude.{◌≡◌};
 ghost use Rattle.wordhost.specs.WordCalls.{image_written, image_fetched, LeftWrite, LeftFetch};
 

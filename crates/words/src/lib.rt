@@ -1,4 +1,6 @@
 // R-3: which buffers fit a string call. What it gives stands in specs/, the theorems in proofs/.
+#![tactic(auto)]
+
 ghost use Rattle.std.specs.Prelude.{◌≡◌};
 ghost use Rattle.words.specs.Calls.{readable, writable};
 

@@ -1,4 +1,6 @@
 // What A stores in the registers, the stack and the turn of the ID bytes, in place.
+#![tactic(auto)]
+
 ghost use Rattle.std.specs.Prelude.{◌≡◌, ◌+◌, ◌%◌};
 ghost use Rattle.rules.specs.Changed.{with_identity};
 ghost use Rattle.image.specs.Image.{IsImage, image_of, state_at};

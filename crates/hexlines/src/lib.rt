@@ -1,7 +1,9 @@
 // Answers as lines of hex digits.
+#![tactic(auto)]
+
 ghost use Rattle.std.specs.Prelude.{◌≡◌, ◌+◌, ◌≤◌, min, length, take, drop};
 ghost use Rattle.std.proofs.Math.Seq.{paste};
-ghost use Rattle.hex.specs.Hex.{line_of, Digits, Printed};
+ghost use Rattle.hexlines.specs.Hex.{line_of, Digits, Printed};
 
 use laws::smaller;
 use rules::records::ANSWER_SIZE;

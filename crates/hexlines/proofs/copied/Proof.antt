@@ -8,8 +8,8 @@ use lib.ListN.{length, take, drop, length-drop, length-set}
 use lib.Seq.{length-take-le}
 use Rattle.rules.specs.Numbers.{padded}
 use Rattle.laws.proofs.Lists.{window_copy, padded_full}
-use Rattle.hex.proofs.copied.Statement.{statement}
-use Rattle.hex.proofs.copied.Tie as tie
+use Rattle.hexlines.proofs.copied.Statement.{statement}
+use Rattle.hexlines.proofs.copied.Tie as tie
 
 abbrev invariant-loop : tie.invariant-loop
 invariant-loop answers from b₀ i₀ b i =

@@ -5,10 +5,10 @@ use borrow.Author.Rules.{rules}
 use native.Mathlib.Omega.{arith}
 use lib.ListN.{length, length-set}
 use lib.Seq.{paste, paste-zero}
-use Rattle.hex.specs.Hex.{line_of}
-use Rattle.hex.proofs.LineByLine.{put_byte, put_end}
-use Rattle.hex.proofs.line.Statement.{statement}
-use Rattle.hex.proofs.line.Tie as tie
+use Rattle.hexlines.specs.Hex.{line_of}
+use Rattle.hexlines.proofs.LineByLine.{put_byte, put_end}
+use Rattle.hexlines.proofs.line.Statement.{statement}
+use Rattle.hexlines.proofs.line.Tie as tie
 
 abbrev invariant-loop : tie.invariant-loop
 invariant-loop out₀ at b i₀ out i =

@@ -6,7 +6,7 @@ use native.Mathlib.Omega.{arith}
 use native.Mathlib.Numerals.{add-one}
 use lib.ListN.{length, take, drop, set, get_or, length-append, length-drop, drop_of_length-le}
 use lib.Seq.{drop-cons, take_all, take_at, drop_at, drop-drop, length-take-le, paste, paste-suc}
-use Rattle.hex.specs.Hex.{digit_of, line_of, lines_of}
+use Rattle.hexlines.specs.Hex.{digit_of, line_of, lines_of}
 
 line_length : (l : List ℕ) → length (line_of l) ≡ 2 * length l + 1
 unfolding line_of

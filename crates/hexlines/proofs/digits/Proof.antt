@@ -5,9 +5,9 @@ use borrow.Author.Rules.{rules}
 use native.Mathlib.Omega.{arith}
 use lib.Dec.{T, eqb, eqb→eq}
 use Rattle.laws.proofs.Tables.{below, below_at}
-use Rattle.hex.specs.Hex.{digit_of}
-use Rattle.hex.proofs.digits.Statement.{statement}
-use Rattle.hex.proofs.digits.Tie as tie
+use Rattle.hexlines.specs.Hex.{digit_of}
+use Rattle.hexlines.proofs.digits.Statement.{statement}
+use Rattle.hexlines.proofs.digits.Tie as tie
 
 abbrev values : ℕ → ℕ
 values b = b / 16 + b % 16 * 256

@@ -6,10 +6,10 @@ use borrow.Author.Rules.{rules}
 use native.Mathlib.Omega.{arith}
 use lib.ListN.{length, drop}
 use lib.Seq.{paste}
-use Rattle.hex.specs.Hex.{answers_in, line_of, lines_of}
-use Rattle.hex.proofs.LineByLine.{put_line}
-use Rattle.hex.proofs.print.Statement.{statement}
-use Rattle.hex.proofs.print.Tie as tie
+use Rattle.hexlines.specs.Hex.{answers_in, line_of, lines_of}
+use Rattle.hexlines.proofs.LineByLine.{put_line}
+use Rattle.hexlines.proofs.print.Statement.{statement}
+use Rattle.hexlines.proofs.print.Tie as tie
 
 abbrev invariant-loop : tie.invariant-loop
 invariant-loop answers out₀ n k₀ out k =
