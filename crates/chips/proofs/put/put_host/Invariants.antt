@@ -1,0 +1,10 @@
+use Prim.Native.Nat.{◌-◌}
+use native.Mathlib.Omega.{arith}
+use borrow.Author.Rules.{rules}
+use Rattle.chips.proofs.Elements.{array_bytes}
+use Rattle.chips.proofs.Pasted.{Pasted, begun, again, ended}
+use Rattle.image.specs.Layout.{host_bytes_place}
+use Rattle.chips.proofs.put.put_host.Given as goal
+
+abbrev pub invariant-loop-i : goal.invariant-loop-i
+invariant-loop-i l = Pasted l.initial.m host_bytes_place l.b 128 l.m l.i

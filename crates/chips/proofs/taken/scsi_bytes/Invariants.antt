@@ -1,0 +1,8 @@
+use Prim.Native.Nat.{◌-◌}
+use native.Mathlib.Omega.{arith}
+use Rattle.chips.proofs.Window.{Taken, begun, again, ended}
+use Rattle.image.specs.Layout.{scsi_bytes_place}
+use Rattle.chips.proofs.taken.scsi_bytes.Given as goal
+
+abbrev pub invariant-loop-i : goal.invariant-loop-i
+invariant-loop-i l = Taken l.m scsi_bytes_place 8 l.out l.i

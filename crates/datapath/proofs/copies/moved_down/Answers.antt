@@ -1,0 +1,21 @@
+use Prim.Native.Nat.{◌+◌, ◌-◌}
+use mathlib.Core.Path.{ap, ◌∙◌}
+use mathlib.Core.List.{List}
+use Prim.Native.Nat.{ℕ}
+use native.Mathlib.Omega.{arith}
+use lib.ListN.{drop, replicate, length-drop}
+use lib.Seq.{paste}
+use borrow.Author.Rules.{rules}
+use Rattle.datapath.specs.Laid.{lowered}
+use Rattle.datapath.proofs.Places.{pasted_long}
+use Rattle.datapath.proofs.copies.moved_down.Goals as goal
+
+pub zeroed-requires : goal.zeroed-requires
+zeroed-requires c =
+    let a = c.before.before.before in record { m_len = pasted_long a.args.m.now c.copied.new.m a.args.at (drop (a.args.at + a.args.k) a.args.m.now) (a.args.n - a.args.k) c.copied.ensures a.requires.m_len (omega arith) (simp length-drop (omega arith)); n_bound = omega arith }
+
+pub returns : goal.returns
+unfolding lowered
+returns c =
+    let a = c.args in
+    c.zeroed.ensures ∙ ap (λ (l : List ℕ). paste l (a.at + (a.n - a.k)) (replicate a.k 0) a.k) c.copied.ensures

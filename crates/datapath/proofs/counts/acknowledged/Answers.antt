@@ -1,0 +1,6 @@
+use borrow.Author.Rules.{rules}
+use Rattle.datapath.proofs.Heads.{on}
+use Rattle.datapath.proofs.counts.acknowledged.Goals as goal
+
+pub returns : goal.returns
+returns c = on _ c.counter_stepped-passed.ensures.m_after

@@ -1,0 +1,6 @@
+use borrow.Author.Rules.{rules}
+use Rattle.datapath.proofs.Heads.{middle}
+use Rattle.datapath.proofs.counts.middle_written.Goals as goal
+
+pub returns : goal.returns
+returns c = middle _ c.requires.packed c.args.value c.ranges.value.fits

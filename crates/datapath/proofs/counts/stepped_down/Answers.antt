@@ -1,0 +1,9 @@
+use borrow.Author.Rules.{rules}
+use Rattle.datapath.proofs.Fronts.{placed_at}
+use Rattle.datapath.proofs.Heads.{low_down}
+use Rattle.datapath.proofs.counts.stepped_down.Goals as goal
+
+pub returns-then-low-gt1 : goal.returns-then-low-gt1
+returns-then-low-gt1 c =
+    let start = c.before.before.before in
+    let both = low_down _ start.requires.packed (placed_at start.args.m.now start.requires) c.if-low-gt1.true in record { value = both.0; m_after = both.1 }

@@ -1,0 +1,19 @@
+use mathlib.Core.Path.{ap, ◌∙◌}
+use mathlib.Core.List.{List}
+use Prim.Native.Nat.{ℕ}
+use native.Mathlib.Omega.{arith}
+use borrow.Author.Rules.{rules}
+use Rattle.image.specs.Image.{image_of, state_at}
+use Rattle.rules.specs.Changed.{with_host}
+use Rattle.datapath.proofs.Fronts.{none_left, placed_at}
+use Rattle.datapath.proofs.host.host_emptied.Goals as goal
+
+pub host_popped-requires : goal.host_popped-requires
+host_popped-requires c = record { image = c.requires; k_bound = omega (arith, c.wide-n.ensures) }
+
+pub returns : goal.returns
+returns c =
+    let w = c.before.before in
+    let a = w.before.before.before in
+    let m = a.args.m.now in
+    c.host_popped.ensures ∙ ap (λ (l : List ℕ). image_of (with_host l (state_at m))) (none_left (placed_at m a.requires) a.requires.packed w.wide-n.result w.wide-n.ensures)

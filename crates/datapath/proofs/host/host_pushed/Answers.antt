@@ -1,0 +1,12 @@
+use mathlib.Core.Path.{◌∙◌}
+use borrow.Author.Rules.{rules}
+use Rattle.image.specs.Image.{state_at}
+use Rattle.datapath.proofs.Fronts.{placed_at}
+use Rattle.datapath.proofs.Ends.{host_one_more}
+use Rattle.datapath.proofs.host.host_pushed.Goals as goal
+
+pub returns : goal.returns
+returns c =
+    let a = c.before.before in
+    let m = a.args.m.now in
+    c.push.ensures ∙ host_one_more (state_at m) a.requires.image.packed (placed_at m a.requires.image) a.args.b a.requires.host_count_place_bound

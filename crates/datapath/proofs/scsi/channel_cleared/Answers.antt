@@ -1,0 +1,20 @@
+use Prim.Native.Nat.{ℕ}
+use mathlib.Core.Path.{ap, ◌∙◌}
+use mathlib.Core.List.{List}
+use native.Mathlib.Omega.{arith}
+use borrow.Author.Rules.{rules}
+use Rattle.image.specs.Image.{image_of, state_at}
+use Rattle.rules.specs.Changed.{with_scsi}
+use Rattle.datapath.proofs.Fronts.{placed_at}
+use Rattle.datapath.proofs.Heads.{no_scsi, no_offset}
+use Rattle.datapath.proofs.scsi.channel_cleared.Goals as goal
+
+pub scsi_popped-requires : goal.scsi_popped-requires
+scsi_popped-requires c = record { image = c.requires; k_bound = omega (arith, c.wide-n.ensures) }
+
+pub returns : goal.returns
+returns c =
+    let w = c.before.before in
+    let a = w.before.before in
+    let m = a.args.m.now in
+    no_offset _ (c.scsi_popped.ensures ∙ ap (λ (l : List ℕ). image_of (with_scsi l (state_at m))) (no_scsi (state_at m) a.requires.packed (placed_at m a.requires) w.wide-n.result w.wide-n.ensures))

@@ -1,0 +1,19 @@
+use mathlib.Core.Path.{◌∙◌}
+use borrow.Author.Rules.{rules}
+use lib.ListN.{get_or}
+use Rattle.image.specs.Image.{state_at}
+use Rattle.image.specs.Layout.{scsi_count_place}
+use Rattle.datapath.proofs.Fronts.{placed_at}
+use Rattle.datapath.proofs.Heads.{scsi_counted}
+use Rattle.datapath.proofs.Ends.{scsi_one_more}
+use Rattle.datapath.proofs.scsi.scsi_pushed.Goals as goal
+
+pub returns : goal.returns
+returns c =
+    let a = c.before.before in
+    let m = a.args.m.now in
+    let p = placed_at m a.requires.image in
+    c.byte_stored.ensures ∙ scsi_one_more (state_at m) a.requires.image.packed p (get_or m scsi_count_place 0) a.args.b (scsi_counted (state_at m) a.requires.image.packed p) a.requires.scsi_count_place_bound
+
+pub byte_stored-requires : goal.byte_stored-requires
+byte_stored-requires c = c.requires.scsi_count_place_bound

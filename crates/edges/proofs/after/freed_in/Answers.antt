@@ -1,0 +1,13 @@
+use mathlib.Core.Path.{ap, ◌∙◌}
+use lib.ListN.{set}
+use borrow.Author.Rules.{rules}
+use Rattle.rules.specs.Sequencer.{selection_freed}
+use Rattle.image.specs.Image.{sequencer_byte}
+use Rattle.image.specs.Layout.{sequencer_place}
+use Rattle.edges.proofs.after.freed_in.Goals as goal
+
+pub returns-then-free : goal.returns-then-free
+returns-then-free c =
+    let q = c.before.before in
+    let chosen = q.before in
+    rw chosen.if-free.true (ap (set chosen.args.m.now sequencer_place) (c.sequencer_byte-v.ensures ∙ ap sequencer_byte (c.freed.ensures ∙ ap selection_freed q.sequencer.ensures)))

@@ -1,0 +1,9 @@
+use borrow.Author.Rules.{rules}
+use Rattle.image.specs.Image.{state_at}
+use Rattle.edges.proofs.after.offset_in.Goals as goal
+
+pub returns : goal.returns
+unfolding state_at
+returns c =
+    let looked = c.before in
+    rw (c.ack_b-ack.ensures, looked.automatic_ack.ensures, looked.offset_b-offset.ensures)

@@ -1,0 +1,14 @@
+use borrow.Author.Rules.{rules}
+use borrow.Author.Tests.{not-true, not-false}
+use mathlib.Core.Bool.{◌||◌}
+use Rattle.edges.proofs.after.registers_in.Goals as goal
+
+pub returns-then-not-reset-bad : goal.returns-then-not-reset-bad
+returns-then-not-reset-bad c =
+    let a = c.args in
+    rw (not-true (a.reset || a.bad || a.free) c.if-not-reset-bad.true)
+
+pub returns : goal.returns
+returns c =
+    let a = c.args in
+    rw (not-false (a.reset || a.bad || a.free) c.if-not-reset-bad.false) c.registers_stored.ensures

@@ -1,0 +1,9 @@
+use borrow.Author.Rules.{rules}
+use Rattle.image.specs.Image.{state_at}
+use Rattle.edges.proofs.found.late_byte.Goals as goal
+
+pub returns-then-within : goal.returns-then-within
+unfolding state_at
+returns-then-within c =
+    let seen = c.before.before.before in
+    rw (seen.if-within.true, seen.io_seen.ensures)

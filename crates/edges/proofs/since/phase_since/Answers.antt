@@ -1,0 +1,11 @@
+use mathlib.Core.Path.{ap, ◌∙◌}
+use borrow.Author.Rules.{rules}
+use Rattle.image.specs.Image.{image_of, state_at}
+use Rattle.edges.proofs.InOrder.{phase_as_seen}
+use Rattle.edges.proofs.since.phase_since.Goals as goal
+
+pub returns : goal.returns
+returns c =
+    let read = c.before.before in
+    let a = read.args in
+    c.phase_in.ensures ∙ ap image_of (phase_as_seen a.x (state_at a.m.now) read.before_of-was.ensures.mismatched_value)

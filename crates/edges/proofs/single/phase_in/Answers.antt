@@ -1,0 +1,29 @@
+use borrow.Author.Rules.{rules}
+use mathlib.Core.Path.{ap, sym, ◌∙◌}
+use mathlib.Core.Bool.{true, false}
+use Rattle.image.specs.Image.{image_of, state_at}
+use Rattle.edges.specs.Frequent.{raised_b}
+use Rattle.edges.proofs.Placed.{status_placed}
+use Rattle.edges.proofs.AppliedIn.{mismatched_at}
+use Rattle.edges.proofs.Frequent.{phase_kept, phase_as}
+use Rattle.edges.proofs.single.phase_in.Goals as goal
+
+pub returns-then-was : goal.returns-then-was
+returns-then-was c = c.requires ∙ ap image_of (sym (phase_kept c.args.was _ c.if-was.true))
+
+pub returns-then-mismatched : goal.returns-then-mismatched
+returns-then-mismatched c =
+    let tested = c.before.before in
+    let first = tested.before.before in
+    let start = first.before in
+    let m = start.args.m.now in
+    status_placed (raised_b true false false) (state_at m) start.requires c.raised_in.ensures
+    ∙ ap image_of (phase_as start.args.was (state_at m) first.if-was.false (sym tested.if-mismatched.true ∙ tested.mismatched.ensures ∙ mismatched_at m (state_at m) start.requires))
+
+pub returns-else-mismatched : goal.returns-else-mismatched
+returns-else-mismatched c =
+    let first = c.before.before in
+    let start = first.before in
+    let m = start.args.m.now in
+    start.requires
+    ∙ ap image_of (phase_as start.args.was (state_at m) first.if-was.false (sym c.if-mismatched.false ∙ c.mismatched.ensures ∙ mismatched_at m (state_at m) start.requires))

@@ -1,0 +1,33 @@
+use mathlib.Core.Path.{refl}
+use mathlib.Core.Bool.{false}
+use borrow.Author.Rules.{rules}
+use Rattle.rules.specs.Map.{table, written_at}
+use Rattle.rules.specs.declared.records.Event.TheVariants.{Write, WordRead}
+use Rattle.effects.proofs.StatesOfA.{start, there, sequenced, flagged, unlatched, acts}
+use Rattle.effects.proofs.Effects.{leaves, clrsint0}
+use Rattle.effects.proofs.clearing.ready_cleared.Goals as goal
+
+pub sequencer_written_in-requires : goal.sequencer_written_in-requires
+unfolding table written_at
+sequencer_written_in-requires c = record { image = c.requires; written = refl }
+
+pub status_kept_in-requires : goal.status_kept_in-requires
+status_kept_in-requires c =
+    let a = c.before.before.before in
+    there (sequenced (leaves clrsint0 a.requires a.ranges.value.fits) (start a.requires) c.sequencer_written_in.ensures)
+
+pub latches_written_in-requires : goal.latches_written_in-requires
+latches_written_in-requires c =
+    let x = c.before.before.before in
+    let a = x.before.before in
+    let i = sequenced (leaves clrsint0 a.requires a.ranges.value.fits) (start a.requires) x.sequencer_written_in.ensures in
+    there (flagged i false false WordRead c.status_kept_in.ensures)
+
+pub returns : goal.returns
+returns c =
+    let y = c.before.before.before in
+    let x = y.before.before in
+    let a = x.before.before in
+    let l = leaves clrsint0 a.requires a.ranges.value.fits in
+    let i = flagged (sequenced l (start a.requires) x.sequencer_written_in.ensures) false false WordRead y.status_kept_in.ensures in
+    acts l (unlatched i (Write 0x0B a.args.value) c.latches_written_in.ensures) c.done_with.ensures

@@ -1,0 +1,16 @@
+use borrow.Author.Rules.{rules}
+use mathlib.Core.Path.{refl}
+use mathlib.Core.Bool.{false}
+use Rattle.rules.specs.Events.{ticks_of}
+use Rattle.rules.specs.Reads.{value_read}
+use Rattle.rules.specs.declared.records.Event.TheVariants.{WordRead}
+use Rattle.effects.proofs.Driven.{leaves_ticked}
+use Rattle.effects.proofs.StatesOfA.{start, flagged, acts_with}
+use Rattle.effects.proofs.driving.ticked.Goals as goal
+
+pub returns : goal.returns
+unfolding value_read ticks_of
+returns c =
+    let kept = c.before in
+    let o = kept.before.before in
+    acts_with (leaves_ticked o.requires.image o.requires.n_bound) refl refl (flagged (start o.requires.image) false false WordRead kept.status_kept_in.ensures) c.done_with.ensures

@@ -1,0 +1,27 @@
+use mathlib.Core.Path.{refl, ap, ◌∙◌}
+use native.Mathlib.Omega.{arith}
+use borrow.Author.Rules.{rules}
+use Rattle.rules.specs.Map.{table, read_at}
+use Rattle.rules.specs.declared.map.Register.TheVariants.{ID}
+use Rattle.image.specs.Image.{image_of, state_at}
+use Rattle.effects.proofs.ReadLaws.{read_done, unheld_image, read_acts}
+use Rattle.effects.proofs.ReadParts.{identity_left, identity_value, unaccessed, unacked}
+use Rattle.effects.proofs.reading.identity_read.Goals as goal
+
+pub status_kept_in-requires : goal.status_kept_in-requires
+unfolding read_at table
+status_kept_in-requires c =
+    let x = c.before in
+    let o = x.before.before.before in
+    let s = state_at o.args.m.now in
+    unheld_image o.requires 0x1F (omega arith) (read_done o.requires 0x1F ID refl refl) (x.identity_turned.ensures ∙ ap image_of (identity_left s))
+
+pub returns : goal.returns
+unfolding read_at table
+returns c =
+    let k = c.before in
+    let x = k.before.before in
+    let o = x.before.before.before in
+    let s = state_at o.args.m.now in
+    read_acts o.requires 0x1F (omega arith) (read_done o.requires 0x1F ID refl refl) (x.identity_turned.ensures ∙ ap image_of (identity_left s))
+    (unaccessed s 0x1F refl) (unacked s 0x1F refl) k.status_kept_in.ensures (x.id_byte-value.ensures ∙ identity_value s) c.done_with.ensures

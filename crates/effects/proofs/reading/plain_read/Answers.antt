@@ -1,0 +1,10 @@
+use Prim.Native.Nat.{ℕ}
+use mathlib.Core.Path.{ap, ◌∙◌}
+use borrow.Author.Rules.{rules}
+use Rattle.effects.specs.Acting.{done_with}
+use Rattle.effects.proofs.reading.plain_read.Goals as goal
+
+pub returns : goal.returns
+returns c =
+    let k = c.before in
+    record { m_after = k.status_kept_in.ensures; value = c.done_with.ensures ∙ ap (λ (v : ℕ). done_with v 0) k.read_register-value.ensures }

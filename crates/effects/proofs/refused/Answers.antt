@@ -1,0 +1,9 @@
+use borrow.Author.Rules.{rules}
+use mathlib.Core.Path.{ap, ◌∙◌}
+use Rattle.effects.specs.Acting.{refused_as}
+use Rattle.effects.proofs.refused.Goals as goal
+
+pub returns : goal.returns
+returns c =
+    let valued = c.before in
+    c.IsRefused-as.ensures ∙ ap (refused_as valued.args.code) valued.refused_value.ensures

@@ -1,0 +1,8 @@
+use borrow.Author.Rules.{rules}
+use Rattle.effects.proofs.writing.counter_by.Goals as goal
+
+pub returns-then-clears : goal.returns-then-clears
+returns-then-clears c = rw c.if-clears.true c.counter_zeroed.ensures
+
+pub returns-else-clears : goal.returns-else-clears
+returns-else-clears c = rw c.if-clears.false c.requires.packed

@@ -1,0 +1,31 @@
+use mathlib.Core.Path.{refl}
+use mathlib.Core.Bool.{false}
+use borrow.Author.Rules.{rules}
+use Rattle.rules.specs.declared.records.Event.TheVariants.{WordRead}
+use Rattle.effects.proofs.StatesOfA.{start, there, sequenced, stored, flagged, acts}
+use Rattle.effects.proofs.Effects.{leaves}
+use Rattle.effects.proofs.writing.selection_written.Goals as goal
+
+pub sequencer_written_in-requires : goal.sequencer_written_in-requires
+sequencer_written_in-requires c = record { image = c.requires.image; written = c.requires.selects.written }
+
+pub stored-requires : goal.stored-requires
+stored-requires c =
+    let a = c.before.before.before in
+    record { image = there (sequenced (leaves a.requires.selects.does a.requires.image a.ranges.value.fits) (start a.requires.image) c.sequencer_written_in.ensures); written = a.requires.selects.written }
+
+pub status_kept_in-requires : goal.status_kept_in-requires
+status_kept_in-requires c =
+    let x = c.before.before.before in
+    let a = x.before.before in
+    let l = leaves a.requires.selects.does a.requires.image a.ranges.value.fits in
+    there (stored l (sequenced l (start a.requires.image) x.sequencer_written_in.ensures) refl c.stored.ensures)
+
+pub returns : goal.returns
+returns c =
+    let y = c.before.before.before in
+    let x = y.before.before in
+    let a = x.before.before in
+    let l = leaves a.requires.selects.does a.requires.image a.ranges.value.fits in
+    let i = stored l (sequenced l (start a.requires.image) x.sequencer_written_in.ensures) refl y.stored.ensures in
+    acts l (flagged i false false WordRead c.status_kept_in.ensures) c.done_with.ensures

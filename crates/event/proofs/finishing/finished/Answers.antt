@@ -1,0 +1,51 @@
+use borrow.Author.Rules.{rules}
+use mathlib.Core.Path.{ap, ◌∙◌}
+use mathlib.Core.Bool.{Bool, cond}
+use Rattle.rules.specs.declared.codes.Code.{Code}
+use Rattle.rules.specs.declared.codes.Code.TheVariants.{Done, BeyondLimit}
+use Rattle.event.proofs.ThroughB as b
+use Rattle.event.proofs.ThroughD.{status_of_lem}
+use Rattle.event.proofs.ThroughAll as all
+use Rattle.event.proofs.finishing.finished.Goals as goal
+
+pub bus_in-beyond-requires : goal.bus_in-beyond-requires
+bus_in-beyond-requires c =
+    let w = c.requires in
+    b.image_a w.state w.range w.bytes w.event w.fits w.done w.made
+
+pub settle-t-requires : goal.settle-t-requires
+settle-t-requires c =
+    let found = c.before.before in
+    let start = found.before.before.before.before in
+    let w = start.requires in
+    let seen = start.args.seen in
+    b.image_b w.state w.range w.bytes w.event w.fits w.done w.made seen w.rst w.req w.ticks w.mismatched found.bus_in-beyond.ensures.m_after
+
+pub closed_in-requires : goal.closed_in-requires
+closed_in-requires c =
+    let settled = c.before in
+    let way = settled.before.before in
+    let found = way.before in
+    let start = found.before.before.before.before in
+    let w = start.requires in
+    let seen = start.args.seen in
+    let f = b.b_fits w.state w.range w.bytes w.event w.fits w.done w.made in
+    let g = b.b_bytes w.state w.range w.bytes w.event w.fits w.done w.made in
+    let h = b.is_b w.state w.range w.bytes w.event w.fits w.done w.made seen w.rst w.req w.ticks w.mismatched found.bus_in-beyond.ensures.m_after in
+    record { image = all.image_c w.state w.event f g h settled.settle-t.ensures; way_value = all.way_kept w.state w.event f g h settled.settle-t.ensures way.path-way.ensures }
+
+abbrev beyond_code : Bool → Code
+beyond_code x = cond x BeyondLimit Done
+
+pub returns : goal.returns
+returns c =
+    let code = c.before in
+    let closed = code.before in
+    let settled = closed.before.before in
+    let found = settled.before.before.before in
+    let seen = found.args.seen in
+    λ w.
+    all.leaves w.state w.event (b.b_fits w.state w.range w.bytes w.event w.fits w.done w.made) (b.b_bytes w.state w.range w.bytes w.event w.fits w.done w.made)
+    (b.is_b w.state w.range w.bytes w.event w.fits w.done w.made seen w.rst w.req w.ticks w.mismatched found.bus_in-beyond.ensures.m_after) settled.settle-t.ensures
+    w.simode0 w.simode1 (status_of_lem _ (b.state_a w.state w.range w.bytes w.event w.fits w.done w.made)) closed.closed_in.ensures
+    (code.code_of-code.ensures ∙ ap beyond_code (b.beyond_is w.state w.range w.bytes w.event w.fits w.done w.made seen w.rst w.req w.ticks found.bus_in-beyond.ensures.value)) w.value

@@ -1,0 +1,61 @@
+use borrow.Author.Rules.{rules}
+use native.Mathlib.Omega.{arith}
+use mathlib.Core.Path.{◌≡◌, ap, subst, ◌∙◌}
+use Rattle.rules.specs.declared.records.Event.{Event}
+use Rattle.rules.specs.declared.records.Event.TheVariants.{Drive}
+use Rattle.rules.specs.declared.records.Decoded.{Decoded}
+use Rattle.rules.specs.declared.records.Decoded.TheVariants.{Well}
+use Rattle.rules.specs.declared.records.Lines.{Lines}
+use Rattle.image.specs.Image.{state_at}
+use Rattle.effects.specs.Acting.{Acts}
+use Rattle.event.proofs.RecordTells.{four, event_fits, lines_taken}
+use Rattle.event.proofs.opening.opened_event.Goals as goal
+
+-- the record of lines has four bytes
+pub bounds-bytes-1 : goal.bounds-bytes-1
+bounds-bytes-1 c =
+    let a = c.before.before.before.before.before.before in
+    omega (arith, four a.args.bytes.now a.requires.bytes_value)
+
+pub bounds-bytes-2 : goal.bounds-bytes-2
+bounds-bytes-2 c =
+    let a = c.before.before.before.before.before.before.before in
+    omega (arith, four a.args.bytes.now a.requires.bytes_value)
+
+pub bounds-bytes-3 : goal.bounds-bytes-3
+bounds-bytes-3 c =
+    let a = c.before.before.before.before.before.before.before.before in
+    omega (arith, four a.args.bytes.now a.requires.bytes_value)
+
+pub ticked-requires : goal.ticked-requires
+ticked-requires c =
+    let known = c.before.before in
+    let a = known.before.before.before in
+    record { image = a.requires.image; n_bound = event_fits a.args.bytes.now (a.requires.bytes_value ∙ ap Well known.in-Ticks.is) }
+
+pub returns-in-PowerReset : goal.returns-in-PowerReset
+returns-in-PowerReset c = rw c.in-PowerReset.is c.power_reset_in.ensures
+
+pub returns-in-Write : goal.returns-in-Write
+returns-in-Write c = rw c.in-Write.is c.write_in.ensures
+
+pub returns-in-Read : goal.returns-in-Read
+returns-in-Read c = rw c.in-Read.is c.read_in.ensures
+
+pub returns-in-WordWrite : goal.returns-in-WordWrite
+returns-in-WordWrite c = rw c.in-WordWrite.is c.word_written.ensures
+
+pub returns-in-WordRead : goal.returns-in-WordRead
+returns-in-WordRead c = rw c.in-WordRead.is c.word_read.ensures
+
+-- and its lines are those of its payload
+pub returns-in-Drive : goal.returns-in-Drive
+returns-in-Drive c =
+    let known = c.before.before.before.before.before.before in
+    let a = known.before.before.before in
+    let s = state_at a.args.m.now in
+    rw known.in-Drive.is
+    (subst (λ (l : Lines). Acts s (Drive l) c.drive_in.new.m c.drive_in.result) (lines_taken a.args.bytes.now (a.requires.bytes_value ∙ ap Well known.in-Drive.is)) c.drive_in.ensures)
+
+pub returns-in-Ticks : goal.returns-in-Ticks
+returns-in-Ticks c = rw c.in-Ticks.is c.ticked.ensures

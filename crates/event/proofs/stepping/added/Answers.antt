@@ -1,0 +1,16 @@
+use mathlib.Core.Path.{◌≡◌, refl, ap, sym, ◌∙◌}
+use Rattle.settling.specs.declared.Told.{Told}
+use Rattle.event.specs.Totals.{Sums, summed}
+use borrow.Author.Rules.{rules}
+use Rattle.event.proofs.stepping.added.Goals as goal
+
+pub summed-requires : goal.summed-requires
+summed-requires c =
+    let start = c.before.before in
+    rw c.told.ensures (start.requires c.if-first.false)
+
+pub returns-else-first : goal.returns-else-first
+returns-else-first c =
+    let start = c.before.before.before in
+    let b = start.args.before in
+    rw c.if-first.false (c.summed.ensures ∙ ap (λ (t : Told). summed b.moves b.acks b.sent t) c.told.ensures)

@@ -1,0 +1,5 @@
+use borrow.Author.Rules.{rules}
+use Rattle.event.proofs.stepping.ended.Goals as goal
+
+pub returns : goal.returns
+returns c = rw c.none-sent.ensures

@@ -1,0 +1,15 @@
+use mathlib.Core.Path.{◌≡◌, refl, ap, sym, ◌∙◌}
+use native.Mathlib.Omega.{arith}
+use Rattle.host.proofs.OverImages.{called_short, called_one}
+use borrow.Author.Rules.{rules}
+use Rattle.host.proofs.over.step_over.Goals as goal
+
+pub returns-then-answer-ne-ANSWER_SIZE : goal.returns-then-answer-ne-ANSWER_SIZE
+returns-then-answer-ne-ANSWER_SIZE c =
+    let start = c.before.before.before in
+    called_short start.args.bytes.now start.requires c.if-answer-ne-ANSWER_SIZE.true
+
+pub returns : goal.returns
+returns c =
+    let start = c.before.before.before.before.before.before.before.before.before in
+    called_one start.args.answer.now c.if-answer-ne-ANSWER_SIZE.false c.one_answered.ensures refl

@@ -1,9 +1,0 @@
--- Each arm computes.
-use borrow.Author.Rules.{rules}
-use Rattle.rules.specs.Seen.{phase_drives}
-use Rattle.image.proofs.sequencer.drives_data.Statement.{statement}
-use Rattle.image.proofs.sequencer.drives_data.Tie as tie
-
-pub drives_data_spec : {M : Type 1} → statement M
-unfolding phase_drives
-drives_data_spec = tie.close (tie.spec (λ c. search rules) (λ c. search rules) (λ c. search rules) (λ c. search rules) (λ c. search rules) (λ c. search rules) (λ c. search rules) (λ c. search rules) (λ c. rw c.enum_told.given.1) (λ c. rw c.enum-told2.given.1) (λ c. rw c.enum-told3.given.1) (λ c. rw c.enum-told4.given.1) (λ c. rw c.enum-told5.given.1) (λ c. rw c.enum-told6.given.1) (λ c. rw c.enum-told7.given.1) (λ c. rw c.enum-told8.given.1))

@@ -1,0 +1,14 @@
+use mathlib.Core.Path.{◌≡◌, ap, ◌∙◌}
+use Prim.Native.Nat.{ℕ, ◌/◌, ◌%◌, ◌^◌}
+use native.Mathlib.Omega.{arith}
+use borrow.Author.Rules.{rules}
+use Rattle.laws.proofs.Bits.{shl_one}
+use Rattle.rules.specs.Seen.{other_id}
+use Rattle.image.proofs.sequencer.other_id.Goals as goal
+
+pub returns : goal.returns
+unfolding other_id
+returns c =
+    let k : ℕ = c.args.id / 1 % 8 in
+    let e : k ≡ k % 8 = omega arith in
+    shl_one 8 k (omega arith) ∙ ap (λ (n : ℕ). 2 ^ n) e

@@ -1,0 +1,17 @@
+use mathlib.Core.Path.{ap, sym, ◌∙◌}
+use borrow.Author.Rules.{rules}
+use Rattle.rules.specs.StepA.{latches_a}
+use Rattle.rules.specs.declared.chip.Latches.{Latches}
+use Rattle.rules.specs.declared.records.Event.TheVariants.{Write}
+use Rattle.image.specs.Image.{state_at}
+use Rattle.image.proofs.AtPlaces.{latches_at}
+use Rattle.interrupts.proofs.StatusAndLatchBytes.{latches_as}
+use Rattle.interrupts.proofs.latches.latches_written_in.Goals as goal
+
+pub returns : goal.returns
+returns c =
+    let written = c.before.before in
+    let unpacked = written.before in
+    let a = unpacked.args in
+    let m = a.m.now in
+    latches_as (state_at m) (written.latches_written-k.ensures ∙ ap (λ (k : Latches). latches_a k (Write a.offset a.value)) (unpacked.latches_of.ensures ∙ sym (latches_at m))) c.latches_put.ensures

@@ -1,0 +1,29 @@
+use mathlib.Core.Path.{ap, sym, ◌∙◌}
+use borrow.Author.Rules.{rules}
+use Rattle.image.specs.Image.{state_at}
+use Rattle.image.proofs.AtPlaces.{status_at}
+use Rattle.interrupts.proofs.StatusAndLatchBytes.{status_left, status_as}
+use Rattle.interrupts.proofs.Falling.{no_ack, no_request, falls, without_reqinit}
+use Rattle.interrupts.proofs.status.fallen_in.Goals as goal
+
+pub returns-then-not-reqinit : goal.returns-then-not-reqinit
+returns-then-not-reqinit c =
+    let start = c.before.before in
+    let m = start.args.m.now in
+    status_left m start.requires _ (no_request _ _ c.reqinit.ensures c.if-not-reqinit.true)
+
+pub returns-then-acks-seen : goal.returns-then-acks-seen
+returns-then-acks-seen c =
+    let asked = c.before in
+    let start = asked.before.before.before in
+    let m = start.args.m.now in
+    status_left m start.requires _ (no_ack start.args.acks _ asked.ack_seen-seen.ensures c.if-acks-seen.true)
+
+pub returns : goal.returns
+returns c =
+    let unpacked = c.before.before in
+    let tested = unpacked.before.before.before in
+    let asked = tested.before in
+    let start = asked.before.before.before in
+    let m = start.args.m.now in
+    status_as (state_at m) (ap without_reqinit (unpacked.status_of-t.ensures ∙ sym (status_at m)) ∙ falls start.args.acks _ asked.ack_seen-seen.ensures tested.if-acks-seen.false) c.status_put.ensures

@@ -1,0 +1,15 @@
+use mathlib.Core.Bool.{not, ◌&&◌, and-true}
+use borrow.Author.Rules.{rules}
+use lib.Dec.{eqb}
+use Rattle.rules.specs.Numbers.{bit}
+use Rattle.rules.specs.Events.{writes, value_of}
+use Rattle.rules.specs.StepA.{error_a, status_a, clears, clears_error}
+use Rattle.interrupts.proofs.status.status_written.Goals as goal
+
+pub returns : goal.returns
+unfolding error_a status_a clears clears_error writes value_of
+returns c =
+    let error = c.before.before.before.before.before.before in
+    let second = error.before in
+    let a = second.args in
+    rw (error.error_written-error.ensures, second.offset_of.ensures, second.offset_of-2.ensures, and-true (not (eqb a.offset 0x0C && bit a.value 0)))

@@ -1,0 +1,20 @@
+use mathlib.Core.Path.{sym, ◌∙◌}
+use mathlib.Core.Bool.{false}
+use borrow.Author.Rules.{rules}
+use Rattle.rules.specs.StepA.{error_a, status_a}
+use Rattle.rules.specs.declared.records.Event.TheVariants.{Write}
+use Rattle.image.specs.Image.{state_at}
+use Rattle.image.proofs.AtPlaces.{status_at}
+use Rattle.interrupts.proofs.StatusAndLatchBytes.{status_as}
+use Rattle.interrupts.proofs.status.status_written_in.Goals as goal
+
+pub returns : goal.returns
+returns c =
+    let written = c.before.before in
+    let unpacked = written.before in
+    let looked = unpacked.before.before.before in
+    let checked = looked.before in
+    let a = checked.args in
+    let m = a.m.now in
+    let status = unpacked.status_of.ensures ∙ sym (status_at m) in
+    status_as (state_at m) (written.status_written-t.ensures ∙ (λ i. status_a false false (checked.enspchk-enspchk.ensures i) (looked.kept_bad-kept.ensures i) (status i) (Write a.offset a.value))) c.status_put.ensures

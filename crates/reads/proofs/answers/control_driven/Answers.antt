@@ -1,0 +1,46 @@
+use borrow.Author.Rules.{rules}
+use mathlib.Core.Path.{◌≡◌, refl, sym, ap, ◌∙◌}
+use mathlib.Core.Bool.{Bool, false, ◌||◌}
+use Prim.Native.Nat.{ℕ, ◌%◌}
+use lib.ListN.{get_or}
+use Rattle.rules.specs.Numbers.{byte_of}
+use Rattle.rules.specs.Seen.{phase_bsy, phase_sel, ack_driven}
+use Rattle.rules.specs.State.{State}
+use Rattle.rules.specs.Answers.{control_driven}
+use Rattle.rules.specs.declared.chip.Phase.{Phase}
+use Rattle.rules.specs.declared.chip.Phase.TheVariants.{Idle}
+use Rattle.image.specs.Image.{state_at, phase_of}
+use Rattle.image.specs.Layout.{sequencer_place}
+use Rattle.reads.proofs.answers.control_driven.Goals as goal
+
+-- with the lines that the phase gives
+by_lines : (s : State) {sel bsy : Bool} → sel ≡ phase_sel s.sequencer.phase → bsy ≡ phase_bsy s.sequencer.phase → byte_of false false false s.registers.scsisig.atno (s.registers.scsisig.selo || sel) (s.registers.scsisig.bsyo || bsy) false (ack_driven s) ≡ control_driven s
+unfolding control_driven
+by_lines s e f = rw (e, f)
+
+-- an idle sequencer drives neither
+idle_sel : {p : Phase} → p ≡ Idle → false ≡ phase_sel p
+unfolding phase_sel
+idle_sel e = sym (ap phase_sel e)
+
+idle_bsy : {p : Phase} → p ≡ Idle → false ≡ phase_bsy p
+unfolding phase_bsy
+idle_bsy e = sym (ap phase_bsy e)
+
+pub returns-then-m-eq0 : goal.returns-then-m-eq0
+unfolding state_at
+returns-then-m-eq0 c =
+    let tested = c.before in
+    let m = tested.args.m.now in
+    let e : (state_at m).sequencer.phase ≡ Idle = ap phase_of tested.if-m-eq0.true in
+    c.control_with.ensures ∙ by_lines (state_at m) (idle_sel e) (idle_bsy e)
+
+pub returns-else-m-eq0 : goal.returns-else-m-eq0
+returns-else-m-eq0 c =
+    let bsy = c.before in
+    let sel = bsy.before in
+    let phase = sel.before in
+    let m = phase.args.m.now in
+    let e = phase.phase-p.ensures in
+    c.control_with-else-m-eq0.ensures
+    ∙ by_lines (state_at m) (sel.drives_sel-sel.ensures ∙ ap phase_sel e) (bsy.drives_bsy-bsy.ensures ∙ ap phase_bsy e)

@@ -1,0 +1,26 @@
+use mathlib.Core.Path.{◌≡◌, refl, ap, sym, ◌∙◌}
+use mathlib.Core.Bool.{Bool, true, false, not, ◌&&◌, ◌||◌, and-false}
+use borrow.Author.Rules.{rules}
+use Rattle.rules.specs.State.{State}
+use Rattle.rules.specs.Seen.{phase_drives, io_seen, byte_driving, driving}
+use Rattle.rules.proofs.Logic.{left_true, right_true}
+use Rattle.image.specs.Image.{state_at}
+use Rattle.reads.proofs.answers.is_driving.Goals as goal
+
+not_true : (b : Bool) → not b ≡ true → b ≡ false
+not_true true h = sym h
+not_true false h = refl
+
+undriven : (s : State) → io_seen s ≡ true → phase_drives s.sequencer.phase ≡ false → false ≡ driving s
+unfolding driving byte_driving
+undriven s h k = rw (k, h, and-false)
+
+pub returns-then-io_seen-drives_data : goal.returns-then-io_seen-drives_data
+returns-then-io_seen-drives_data c =
+    let drives = c.before in
+    let phase = drives.before in
+    let io = phase.before in
+    let m = io.args.m.now in
+    let both = c.if-io_seen-drives_data.true in
+    undriven (state_at m) (sym io.io_seen.ensures ∙ left_true io.io_seen.result _ both)
+    (sym (drives.drives_data.ensures ∙ ap phase_drives phase.phase.ensures) ∙ not_true drives.drives_data.result (right_true io.io_seen.result _ both))

@@ -1,0 +1,6 @@
+use borrow.Author.Rules.{rules}
+use Rattle.runs.proofs.run_allows.Goals as goal
+
+-- the arm that asks write_allowed
+pub returns-in-Write : goal.returns-in-Write
+returns-in-Write c = cc

@@ -1,0 +1,7 @@
+use borrow.Author.Rules.{rules}
+use Rattle.saved.specs.Tests.{registers_clear}
+use Rattle.saved.proofs.clear.registers_clear.Goals as goal
+
+pub returns : goal.returns
+unfolding registers_clear
+returns c = cc

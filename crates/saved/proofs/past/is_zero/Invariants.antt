@@ -1,0 +1,8 @@
+use Prim.Native.Nat.{◌-◌}
+use mathlib.Core.Path.{refl}
+use native.Mathlib.Omega.{arith}
+use Rattle.saved.proofs.Zeros.{Joined, begun, again, ended}
+use Rattle.saved.proofs.past.is_zero.Given as goal
+
+abbrev pub invariant-loop-i : goal.invariant-loop-i
+invariant-loop-i l = Joined l.m l.from l.to l.any l.i

@@ -1,0 +1,14 @@
+use mathlib.Core.Bool.{not, ◌&&◌, ◌||◌}
+use borrow.Author.Rules.{rules}
+use Rattle.image.specs.Image.{state_at}
+use Rattle.saved.specs.Tests.{status_shown}
+use Rattle.saved.proofs.rest.status_shown.Goals as goal
+
+pub returns : goal.returns
+unfolding status_shown state_at
+returns c =
+    let acked = c.before.before in
+    let parity = acked.before.before in
+    λ i.
+    (parity.enspchk.ensures i || not (parity.scsiperr.ensures i))
+    && ((not (acked.reqinit.ensures i) || not (acked.ack_seen.ensures i)) && (c.error_shown-error.ensures i && c.ready_shown-ready.ensures i))

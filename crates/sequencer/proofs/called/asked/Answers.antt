@@ -1,0 +1,10 @@
+use mathlib.Core.Path.{◌≡◌, refl, ap, sym, ◌∙◌}
+use mathlib.Core.Bool.{Bool, true, false, not, ◌&&◌, ◌||◌, cond}
+use Rattle.rules.specs.declared.registers.Scsiseq.{Scsiseq}
+use borrow.Author.Rules.{rules}
+use Rattle.image.specs.Image.{state_at}
+use Rattle.sequencer.proofs.called.asked.Goals as goal
+
+pub returns : goal.returns
+unfolding state_at
+returns c = ap (λ (q : Scsiseq). c.args.enselo && not q.temodeo) c.scsiseq_of-q.ensures

@@ -1,0 +1,16 @@
+use mathlib.Core.Path.{◌≡◌, ap, ◌∙◌}
+use lib.ListN.{set}
+use borrow.Author.Rules.{rules}
+use Rattle.image.specs.Image.{state_at}
+use Rattle.image.specs.Layout.{quiet_place, scsiseq_place, scsisig_place}
+use Rattle.sequencer.proofs.InPlace.{sequenced_image}
+use Rattle.sequencer.proofs.placed.sequenced_put.Goals as goal
+
+pub returns : goal.returns
+unfolding state_at
+returns c =
+    let atn = c.before.before.before in
+    let enselo = atn.before.before in
+    let a = enselo.args in
+    (λ i. set (set (set (c.sequencer_put.ensures i) scsiseq_place (enselo.with_enselo-v.ensures i)) scsisig_place (atn.with_atn-w.ensures i)) quiet_place a.x.quiet)
+    ∙ sequenced_image a.x (state_at a.m.now)

@@ -1,0 +1,36 @@
+use mathlib.Core.Path.{◌≡◌, refl, ap, sym, ◌∙◌}
+use mathlib.Core.Bool.{Bool, true, false, not, ◌&&◌, ◌||◌, cond}
+use Rattle.rules.specs.State.{State}
+use Rattle.rules.specs.Seen.{is_phase}
+use Rattle.rules.specs.Sequencer.{connects}
+use Rattle.rules.specs.declared.chip.Sequenced.{Sequenced}
+use Rattle.rules.specs.declared.chip.Phase.{Phase}
+use Rattle.rules.specs.declared.chip.Phase.TheVariants.{Selecting, Holding}
+use Rattle.image.specs.Image.{state_at}
+use borrow.Author.Rules.{rules}
+use Rattle.rules.specs.Sequencer.{selected}
+use Rattle.sequencer.proofs.resolved.selected.Goals as goal
+
+-- by the tests, as the code has them
+by_tests : (s : State) (x : Sequenced) {a b d : Bool} → a ≡ is_phase Selecting x.sequencer.phase → b ≡ is_phase Holding x.sequencer.phase → d ≡ s.lines.bsy → cond ((a || b) && d) (connects s x) x ≡ selected s x
+unfolding selected
+by_tests s x e f g = λ i. cond ((e i || f i) && g i) (connects s x) x
+
+pub returns-then-test : goal.returns-then-test
+returns-then-test c =
+    let bsy = c.before.before in
+    let second = bsy.before in
+    let first = second.before in
+    let phase = first.before in
+    let start = phase.before in
+    c.connects.ensures
+    ∙ rw c.if-test.true at (by_tests (state_at start.args.m.now) start.args.x (first.is_phase.ensures ∙ ap (is_phase Selecting) phase.phase_in-p.ensures) (second.is_phase-2.ensures ∙ ap (is_phase Holding) phase.phase_in-p.ensures) bsy.bsy_of_others.ensures)
+
+pub returns-else-test : goal.returns-else-test
+returns-else-test c =
+    let bsy = c.before in
+    let second = bsy.before in
+    let first = second.before in
+    let phase = first.before in
+    let start = phase.before in
+    rw c.if-test.false at (by_tests (state_at start.args.m.now) start.args.x (first.is_phase.ensures ∙ ap (is_phase Selecting) phase.phase_in-p.ensures) (second.is_phase-2.ensures ∙ ap (is_phase Holding) phase.phase_in-p.ensures) bsy.bsy_of_others.ensures)

@@ -1,0 +1,59 @@
+use Prim.Native.Nat.{ℕ, ◌<◌}
+use mathlib.Core.Path.{◌≡◌, refl, ap, sym, subst, ◌∙◌}
+use mathlib.Core.Bool.{cond}
+use native.Mathlib.Omega.{arith}
+use lib.Dec.{eqb}
+use lib.ListN.{set}
+use borrow.Author.Rules.{rules}
+use Rattle.rules.specs.Changed.{with_quiet, with_sequencer}
+use Rattle.rules.specs.Counter.{counter_size}
+use Rattle.rules.specs.Ranges.{InRange}
+use Rattle.rules.specs.Rest.{AtRest}
+use Rattle.rules.specs.Sequencer.{in_ticks}
+use Rattle.rules.specs.State.{State}
+use Rattle.rules.specs.StepB.{quiet_after}
+use Rattle.rules.specs.Ticks.{ticks_in, advanced, distance}
+use Rattle.rules.specs.declared.chip.Sequencer.{Sequencer}
+use Rattle.rules.proofs.OneTick.{advanced_fits}
+use Rattle.rules.proofs.TickByTick.{distance_bounded}
+use Rattle.image.specs.Image.{image_of, state_at}
+use Rattle.image.specs.Layout.{quiet_place}
+use Rattle.sequencer.proofs.skipping.advanced_in.Goals as goal
+
+-- the ticks in the phase stay within their 24 bits
+ticks_fit : (s : State) (k : ℕ) → AtRest s → InRange s → k < distance s → cond (eqb k 0) s.sequencer.ticks (ticks_in s.sequencer.phase k s) < counter_size
+unfolding advanced
+ticks_fit s k r i h = (advanced_fits s r k i h).sequencer
+
+-- the quiet ticks, where the sequencer stands in its bytes already
+quiet_image : (q : Sequencer) (n : ℕ) (s : State) → set (image_of (with_sequencer q s)) quiet_place n ≡ image_of (with_quiet n (with_sequencer q s))
+unfolding image_of
+quiet_image q n s = refl
+
+pub ticks_after-ticks-requires : goal.ticks_after-ticks-requires
+ticks_after-ticks-requires c =
+    let start = c.before.before.before in
+    let s = state_at start.args.m.now in
+    record { m_bound = start.requires.0.range.sequencer; k_lt_unreached = omega (arith, start.requires.1.1, (distance_bounded s).1) }
+
+pub sequencer_put-requires : goal.sequencer_put-requires
+sequencer_put-requires c =
+    let counted = c.before in
+    let after = counted.before.before in
+    let start = after.before.before in
+    let a = start.args in
+    let e = ap (λ (q : Sequencer). q.ticks) counted.in_ticks-q.ensures ∙ after.ticks_after-ticks.ensures in record { image = start.requires.image; ticks_lt_counter_size = subst (λ (n : ℕ). n < counter_size) (sym e) (ticks_fit (state_at a.m.now) a.k start.requires.at_rest start.requires.image.range start.requires.k_bound) }
+
+pub returns : goal.returns
+unfolding advanced
+returns c =
+    let counted = c.before.before in
+    let read = counted.before in
+    let after = read.before in
+    let quiet = after.before in
+    let a = quiet.args in
+    let s = state_at a.m.now in
+    let e = counted.in_ticks-q.ensures ∙ (λ i. in_ticks (after.ticks_after-ticks.ensures i) (read.sequencer.ensures i)) in
+    (λ i. set (c.sequencer_put.ensures i) quiet_place (quiet.quiet_after-quiet.ensures i))
+    ∙ quiet_image counted.in_ticks-q.result (quiet_after a.k s) s
+    ∙ ap (λ (q : Sequencer). image_of (with_quiet (quiet_after a.k s) (with_sequencer q s))) e

@@ -1,0 +1,20 @@
+use mathlib.Core.Path.{◌≡◌, refl, ap, sym, ◌∙◌}
+use borrow.Author.Tests.{le-leb, lt-leb}
+use Rattle.rules.specs.Sequencer.{entered}
+use Rattle.rules.specs.declared.chip.Phase.{Phase}
+use mathlib.Core.Bool.{Bool, cond}
+use Rattle.rules.specs.declared.chip.Phase.TheVariants.{Waiting, Clearing}
+use borrow.Author.Rules.{rules}
+use Rattle.rules.specs.Sequencer.{arbitrating_for}
+use Rattle.sequencer.proofs.ticking.arbitrating_for.Goals as goal
+
+pub returns-then-n-ge48 : goal.returns-then-n-ge48
+unfolding arbitrating_for
+returns-then-n-ge48 c =
+    let start = c.before.before.before.before in
+    let chosen = c.arbitrated-p.ensures ∙ ap (λ (b : Bool). cond b Waiting Clearing) c.higher_id.ensures in
+    rw (le-leb 48 start.args.n c.if-n-ge48.true) (c.entered.ensures ∙ ap (λ (p : Phase). entered p start.args.x) chosen)
+
+pub returns-else-n-ge48 : goal.returns-else-n-ge48
+unfolding arbitrating_for
+returns-else-n-ge48 c = rw (lt-leb 48 c.args.n c.if-n-ge48.false) c.waited.ensures

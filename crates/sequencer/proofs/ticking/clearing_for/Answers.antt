@@ -1,0 +1,12 @@
+use borrow.Author.Tests.{le-leb, lt-leb}
+use borrow.Author.Rules.{rules}
+use Rattle.rules.specs.Sequencer.{clearing_for}
+use Rattle.sequencer.proofs.ticking.clearing_for.Goals as goal
+
+pub returns-then-n-ge24 : goal.returns-then-n-ge24
+unfolding clearing_for
+returns-then-n-ge24 c = rw (le-leb 24 c.args.n c.if-n-ge24.true) c.selects.ensures
+
+pub returns-else-n-ge24 : goal.returns-else-n-ge24
+unfolding clearing_for
+returns-else-n-ge24 c = rw (lt-leb 24 c.args.n c.if-n-ge24.false) c.waited.ensures

@@ -1,0 +1,19 @@
+use mathlib.Core.Path.{◌≡◌, refl, ap, sym, ◌∙◌}
+use mathlib.Core.Bool.{Bool, true, false, not, ◌&&◌, ◌||◌, cond}
+use borrow.Author.Rules.{rules}
+use Rattle.image.specs.Image.{state_at}
+use Rattle.rules.specs.Sequencer.{selects, selingo_raised, in_phase}
+use Rattle.sequencer.proofs.ticking.selects.Goals as goal
+
+pub returns : goal.returns
+unfolding state_at selects
+returns c =
+    let x = c.args.x in
+    let raised = c.before.before.before.before.before in
+    λ i.
+    record {
+      sequencer = (raised.selingo_raised-n.ensures ∙ ap (selingo_raised _) raised.in_phase.ensures) i;
+      enselo = x.enselo;
+      atno = (c.scsiseq_of-control.ensures i).enautoatno || x.atno;
+      quiet = x.quiet;
+    }

@@ -1,0 +1,23 @@
+use mathlib.Core.Path.{◌≡◌, refl, ap, sym, ◌∙◌}
+use mathlib.Core.Bool.{Bool, true, false, not, ◌&&◌, ◌||◌, cond}
+use Rattle.rules.specs.declared.chip.Phase.{Phase}
+use Rattle.rules.specs.declared.chip.Phase.TheVariants.{Idle, Holding}
+use borrow.Author.Rules.{rules}
+use Rattle.image.specs.Image.{state_at}
+use Rattle.rules.specs.Sequencer.{times_out, selto_raised, in_phase}
+use Rattle.sequencer.proofs.ticking.times_out.Goals as goal
+
+pub returns : goal.returns
+unfolding state_at times_out
+returns c =
+    let start = c.before.before.before.before.before.before.before in
+    let x = start.args.x in
+    let told = c.before.before.before in
+    let chosen = told.timed_out-p.ensures ∙ (λ j. cond (told.simode1_of-enables.ensures j).enseltimo Idle Holding) in
+    λ i.
+    record {
+      sequencer = (c.selto_raised-n.ensures ∙ ap (selto_raised _) (c.in_phase.ensures ∙ ap (λ (p : Phase). in_phase p x.sequencer) chosen)) i;
+      enselo = false;
+      atno = x.atno;
+      quiet = x.quiet;
+    }

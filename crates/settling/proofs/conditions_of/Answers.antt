@@ -1,0 +1,25 @@
+use mathlib.Core.Path.{◌≡◌}
+use mathlib.Core.Bool.{Bool}
+use borrow.Author.Rules.{rules}
+use Rattle.image.specs.Image.{state_at}
+use Rattle.rules.specs.State.{State}
+use Rattle.rules.specs.Seen.{path, synchronous, req_seen}
+use Rattle.rules.specs.StepC.{conditions}
+use Rattle.rules.specs.declared.chip.Conditions.{Conditions}
+use Rattle.settling.specs.Looks.{looked_at}
+use Rattle.settling.proofs.conditions_of.Goals as goal
+
+-- by its parts, as the code reads them
+by_parts : (s : State) {p e o y r : Bool} → p ≡ path s.registers → e ≡ (conditions s).enabled → o ≡ s.registers.dmacntrl0.write → y ≡ synchronous s → r ≡ req_seen s → ◌≡◌ {A = Conditions} (record { path = p; enabled = e; outbound = o; synchronous = y; req = r; byte = s.lines.byte }) (looked_at s)
+unfolding looked_at conditions
+by_parts s e f g h i = cc
+
+pub returns : goal.returns
+unfolding state_at
+returns c =
+    let r = c.before.before in
+    let y = r.before in
+    let o = y.before in
+    let e = o.before in
+    let p = e.before in
+    by_parts (state_at p.args.m.now) p.path-way.ensures e.enabled-able.ensures o.write-out.ensures y.synchronous-kind.ensures r.req_seen-asked.ensures

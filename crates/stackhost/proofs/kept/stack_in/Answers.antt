@@ -1,0 +1,5 @@
+use borrow.Author.Rules.{rules}
+use Rattle.stackhost.proofs.kept.stack_in.Goals as goal
+
+pub returns : goal.returns
+returns c = rw c.bytes_in-bytes.ensures

@@ -1,0 +1,54 @@
+-- The run on an image, between a chip that is laid out and one that is taken up.
+use mathlib.Core.Path.{◌≡◌, refl, ap, sym, ◌∙◌}
+use mathlib.Core.List.{List, ◌++◌}
+use Prim.Native.Nat.{ℕ, ◌+◌, ◌-◌, ◌*◌, ◌≤◌, ◌<◌, ◌^◌}
+use borrow.Author.Rules.{rules}
+use native.Mathlib.Omega.{arith}
+use lib.ListN.{length, drop}
+use Rattle.rules.specs.State.{State}
+use Rattle.rules.specs.Chips.{view, chip_of}
+use Rattle.rules.specs.Step.{after, answers}
+use Rattle.image.specs.Image.{image_of, state_at, IsImage}
+use Rattle.image.proofs.ReadBack.{read_back}
+use Rattle.step.specs.Runs.{records_of, stepped_in, joined}
+use Rattle.step.proofs.Parts.{tidy_of, view_of}
+use Rattle.step.proofs.Running.{image_reached, state_reached, image_next, answers_more}
+use Rattle.step.proofs.run.run.Goals as goal
+
+pub store-requires : goal.store-requires
+store-requires c =
+    let tidied = c.before in
+    let start = tidied.before.before.before in
+    tidy_of (view start.args.c) tidied.tidied-chip.result tidied.tidied-chip.ensures.range tidied.tidied-chip.ensures.packed
+
+pub answered-n-requires : goal.answered-n-requires
+answered-n-requires c = c.store.ensures.sound
+
+pub load-last-requires : goal.load-last-requires
+load-last-requires c =
+    let run = c.before.before.before in
+    let g = run.store.ensures.sound in
+    let a = run.args in
+    image_reached _ g.range g.bytes a.records.now a.answers.now (stepped_in a.records.now a.answers.now) run.answered-n.ensures.image run.answered-n.ensures.answers
+
+pub returns : goal.returns
+returns c =
+    let run = c.before.before.before in
+    let store = run.before.before.before in
+    let tidied = store.before.before in
+    let a = run.args in
+    let bytes = a.records.now in
+    let before = a.answers.now in
+    let n = stepped_in bytes before in
+    let g = store.store.ensures.sound in
+    let tidy = tidied.tidied-chip.ensures in
+    let w : view tidied.tidied-chip.result ≡ view a.c = view_of (view a.c) tidied.tidied-chip.result tidy.range tidy.packed in
+    let v = ap state_at (store.store.ensures.packed ∙ ap image_of w) ∙ read_back (view a.c) tidy.range in
+    let r = run.answered-n.ensures in
+    record {
+      count = r.count;
+      chip =
+          c.load-last.ensures ∙ ap chip_of (state_reached _ g.range g.bytes bytes before n r.image r.answers)
+          ∙ ap (λ (s : State). chip_of (after s (records_of n bytes))) v;
+      answers = r.answers ∙ ap (λ (s : State). joined (answers s (records_of n bytes)) ++ drop (16 * n) before) v;
+    }

@@ -1,0 +1,105 @@
+use Prim.Native.Nat.{ℕ, ◌≤◌, min}
+use mathlib.Core.Path.{◌≡◌, sym, ap, ◌∙◌}
+use native.Mathlib.Omega.{arith}
+use lib.ListN.{length}
+use borrow.Author.Rules.{rules}
+use Rattle.image.specs.Image.{state_at}
+use Rattle.settling.proofs.Carries.{host_held}
+use Rattle.settling.proofs.ReadBackOfTransfer.{offset_held}
+use Rattle.strings.proofs.Settled.{image_settled, block_done}
+use Rattle.strings.proofs.Through.{GoesOut, acks_image, acks_scsi, acks_host, out_settles, none_sent}
+use Rattle.strings.proofs.blocks.settled_in.Goals as goal
+
+-- as many bytes as are held and have REQs outstanding
+counted : (c : goal.After-smaller-n) → c.smaller-n.result ≡ min (state_at c.args.m.now).transfer.offset (length (state_at c.args.m.now).transfer.host)
+counted c =
+    let held = c.before in
+    let offset = held.before.before in
+    let start = offset.before.before.before in
+    let m = start.args.m.now in
+    c.smaller-n.ensures
+    ∙ ap (λ (n : ℕ). min n held.wide-2.result) (offset.wide.ensures ∙ offset_held m start.requires)
+    ∙ ap (min (state_at m).transfer.offset) (held.wide-2.ensures ∙ host_held m start.requires)
+
+few : (c : goal.After-smaller-n) → c.smaller-n.result ≤ 8
+few c = omega (arith, counted c, c.requires.range.transfer.offset)
+
+pub goes_out-requires : goal.goes_out-requires
+goes_out-requires c = record { image = c.before.before.before.before.before.before.requires; n_bound = few c.before }
+
+-- they go out at once
+out : (c : tie.After-oldest-of-arg) → GoesOut c.before.before.before.before.before.before.before.before.before.args.m.now c.before.before.before.before.smaller.result
+out c =
+    let asked = c.before.before in
+    let n = asked.before.before in
+    let bytes = asked.goes-out.ensures.0 c.before.if1.true in
+    let way = asked.goes-out.ensures.1 c.before.if1.true in
+    record {
+      image = n.before.before.before.before.before.requires;
+      count = counted n;
+      some = bytes.0;
+      none = bytes.1;
+      low = bytes.2;
+      enabled = way.0;
+      outbound = way.1;
+      synchronous = way.2;
+    }
+
+pub oldest_of-sent-requires : goal.oldest_of-sent-requires
+oldest_of-sent-requires c =
+    let g = out c in
+    record { image = g.image; n_bound = few c.before.before.before; n_in_bounds = omega (arith, g.count) }
+
+pub acknowledged_by-requires : goal.acknowledged_by-requires
+acknowledged_by-requires c =
+    let g = out c.before in
+    record { image = g.image; n_nonzero = g.some; n_bound = omega (arith, g.count); n_in_bounds = omega (arith, g.count); n_bound_2 = g.low }
+
+pub filled_behind-requires : goal.filled_behind-requires
+filled_behind-requires c =
+    let acked = c.before in
+    let g = out acked.before.before in
+    let e = acked.acknowledged_by.ensures in
+    record { image = acks_image g e; m_value = acks_scsi g e; n_in_bounds = acks_host g e }
+
+pub overflow_cast-n : goal.overflow_cast-n
+overflow_cast-n c = omega (arith, few c.before.before.before.before.before.before.before.before)
+
+pub fallen_in-requires : goal.fallen_in-requires
+fallen_in-requires c =
+    let filled = c.before in
+    let acked = filled.before.before in
+    let sent = acked.before.before in
+    let g = out sent in
+    image_settled g.image (out_settles g acked.acknowledged_by.ensures filled.filled_behind.ensures sent.oldest_of-sent.ensures)
+
+pub returns-then-goes_out : goal.returns-then-goes_out
+returns-then-goes_out c =
+    let filled = c.before.before in
+    let acked = filled.before.before in
+    let sent = acked.before.before in
+    let g = out sent in
+    block_done g.image (out_settles g acked.acknowledged_by.ensures filled.filled_behind.ensures sent.oldest_of-sent.ensures) c.fallen_in.ensures
+
+pub fallen_in-requires-2 : goal.fallen_in-requires-2
+fallen_in-requires-2 c =
+    let settle = c.before in
+    let start = settle.before.before.before.before.before.before.before.before.before.before in
+    image_settled start.requires settle.settle-t.ensures
+
+-- the bytes are not looked at where there are none
+pub returns-then-t-eq0 : goal.returns-then-t-eq0
+returns-then-t-eq0 c =
+    let fallen = c.before.before.before in
+    let settle = fallen.before.before in
+    let start = settle.before.before.before.before.before.before.before.before.before.before in
+    let b = block_done start.requires settle.settle-t.ensures fallen.fallen_in-2.ensures in
+    let e = none_sent _ b.sent c.if-t-eq0.true in
+    record { image = b.image; sent = c.none.ensures ∙ sym e ∙ b.sent }
+
+pub returns : goal.returns
+returns c =
+    let fallen = c.before.before.before in
+    let settle = fallen.before.before in
+    let start = settle.before.before.before.before.before.before.before.before.before.before in
+    block_done start.requires settle.settle-t.ensures fallen.fallen_in-2.ensures

@@ -1,0 +1,50 @@
+-- The words read from an image, between a chip that is laid out and one that is taken up.
+use mathlib.Core.Path.{◌≡◌, sym, ◌∙◌}
+use mathlib.Core.Bool.{true}
+use lib.ListN.{length}
+use borrow.Author.Rules.{rules}
+use borrow.Author.Tests.{not-true, not-false}
+use Rattle.words.specs.Calls.{readable}
+use Rattle.strings.proofs.Fits.{readable_length}
+use Rattle.strings.proofs.ByValue.{entered_tidy}
+use Rattle.strings.proofs.ReadCall.{other_size, image_read, all_read}
+use Rattle.strings.proofs.read_call.read_words.Goals as goal
+
+-- the buffer fits
+fits : (c : goal.Else-not-is_readable) → readable (length c.args.out.now) c.args.words ≡ true
+fits c = sym c.is_readable.ensures ∙ not-false c.is_readable.result c.if-not-is_readable.false
+
+pub returns-then-not-is_readable : goal.returns-then-not-is_readable
+returns-then-not-is_readable c =
+    let test = c.before in
+    let tidied = test.before in
+    let a = tidied.args in
+    other_size tidied.tidied-chip.ensures a.words a.out.now
+    (sym test.is_readable.ensures ∙ not-true test.is_readable.result c.if-not-is_readable.true)
+
+pub store-requires : goal.store-requires
+store-requires c = entered_tidy c.tidied-chip.ensures
+
+pub fetched_over-r-requires : goal.fetched_over-r-requires
+fetched_over-r-requires c =
+    let store = c.before.before in
+    let test = store.before.before in
+    let a = test.args in
+    record { image = store.store.ensures.sound; out_len = readable_length (length a.out.now) a.words (fits test) }
+
+pub load-last-requires : goal.load-last-requires
+load-last-requires c =
+    let fetched = c.before.before.before in
+    let store = fetched.before.before.before in
+    let tidied = store.before.before.before.before in
+    let a = tidied.args in
+    image_read tidied.tidied-chip.ensures a.words a.out.now store.store.ensures fetched.fetched_over-r.ensures
+
+pub returns : goal.returns
+returns c =
+    let fetched = c.before.before.before in
+    let store = fetched.before.before.before in
+    let test = store.before.before in
+    let tidied = test.before.before in
+    let a = tidied.args in
+    all_read tidied.tidied-chip.ensures a.words a.out.now store.store.ensures fetched.fetched_over-r.ensures (fits test) c.load-last.ensures

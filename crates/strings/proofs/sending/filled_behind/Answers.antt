@@ -1,0 +1,53 @@
+use Prim.Native.Nat.{ℕ, ◌+◌, ◌-◌, ◌≤◌, min}
+use mathlib.Core.Path.{◌≡◌, ap, ◌∙◌}
+use mathlib.Core.Bool.{true}
+use native.Mathlib.Omega.{arith}
+use lib.ListN.{length, drop}
+use borrow.Author.Rules.{rules}
+use Rattle.rules.specs.Changed.{with_transfer, transfer_with_host}
+use Rattle.image.specs.Image.{image_of, state_at}
+use Rattle.settling.specs.Blocks.{carried}
+use Rattle.settling.proofs.Carries.{host_held}
+use Rattle.settling.proofs.ReadBackOfTransfer.{long}
+use Rattle.strings.proofs.Through.{behind_image, behind_held, filled}
+use Rattle.strings.proofs.sending.filled_behind.Goals as goal
+
+-- the count that is read, and the bytes that fill the SCSI FIFO
+counted : (c : goal.After-wide) → c.wide.result ≡ length (state_at c.args.m.now).transfer.host
+counted c =
+    let a = c.before.before.before in
+    c.wide.ensures ∙ host_held a.args.m.now a.requires.image
+
+fill : (c : goal.After-smaller-k) → c.smaller-k.result ≡ min (length (state_at c.args.m.now).transfer.host - c.args.n) 8
+fill c = c.smaller-k.ensures ∙ ap (λ (h : ℕ). min (h - c.args.n) 8) (counted c.before)
+
+fill_held : (c : goal.After-smaller-k) → c.args.n + c.smaller-k.result ≤ length (state_at c.args.m.now).transfer.host
+fill_held c = omega (arith, fill c, c.requires.n_in_bounds)
+
+pub overflow_sub-wide : goal.overflow_sub-wide
+overflow_sub-wide c = omega (arith, counted c, c.requires.n_in_bounds)
+
+pub copied-requires : goal.copied-requires
+copied-requires c =
+    let a = c.before.before.before.before.before in
+    let f = a.requires.image.range.transfer.host in
+    record { m_len = long a.args.m.now a.requires.image; n_bound = omega (arith, f, fill_held c.before); n_bound_2 = omega (arith, fill c.before); n_bound_3 = λ l. absurd (omega arith) }
+
+pub host_popped-requires : goal.host_popped-requires
+host_popped-requires c =
+    let k = c.before.before in
+    let b = k.before.before in
+    let a = b.before.before.before.before in
+    let m = a.args.m.now in
+    let few : b.smaller-k.result ≤ 8 = omega (arith, fill b) in record { image = behind_image m a.requires.image a.args.n a.requires.m_value b.smaller-k.result (fill_held b) few k.copied.ensures; k_bound = behind_held m a.requires.image a.args.n a.requires.m_value b.smaller-k.result (fill_held b) few k.copied.ensures }
+
+pub returns : goal.returns
+returns c =
+    let k = c.before.before.before in
+    let b = k.before.before in
+    let a = b.before.before.before.before in
+    let m = a.args.m.now in
+    let n = a.args.n in
+    let few : b.smaller-k.result ≤ 8 = omega (arith, fill b) in
+    filled m a.requires.image n a.requires.m_value b.smaller-k.result (fill_held b) few k.copied.ensures c.host_popped.ensures
+    ∙ ap (λ (j : ℕ). image_of (with_transfer (carried true j (transfer_with_host (drop n (state_at m).transfer.host) (state_at m).transfer)) (state_at m))) (fill b)

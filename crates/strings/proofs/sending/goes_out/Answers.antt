@@ -1,0 +1,47 @@
+use mathlib.Core.Path.{sym, ap, ◌∙◌}
+use mathlib.Core.Bool.{◌&&◌}
+use native.Mathlib.Omega.{arith}
+use borrow.Author.Rules.{rules}
+use Rattle.rules.proofs.Logic.{never, left_true, right_true}
+use Rattle.rules.specs.declared.chip.Conditions.{Conditions}
+use Rattle.image.specs.Image.{state_at}
+use Rattle.settling.specs.Looks.{looked_at}
+use Rattle.settling.proofs.Carries.{scsi_held}
+use Rattle.strings.proofs.Through.{low_held, none_held}
+use Rattle.strings.proofs.sending.goes_out.Goals as goal
+
+pub returns-then-n-eq0 : goal.returns-then-n-eq0
+returns-then-n-eq0 c = record { n_nonzero = λ e. absurd (never e); m_value = λ e. absurd (never e) }
+
+pub returns-then-m-gt0 : goal.returns-then-m-gt0
+returns-then-m-gt0 c = record { n_nonzero = λ e. absurd (never e); m_value = λ e. absurd (never e) }
+
+pub returns-then-wide-n-gt255 : goal.returns-then-wide-n-gt255
+returns-then-wide-n-gt255 c = record { n_nonzero = λ e. absurd (never e); m_value = λ e. absurd (never e) }
+
+pub overflow_add-wide : goal.overflow_add-wide
+overflow_add-wide c =
+    let a = c.before.before.before.before.before.before in
+    omega (arith, c.wide.ensures, low_held a.args.m.now a.requires.image a.args.n, a.requires.n_bound)
+
+pub returns : goal.returns
+unfolding looked_at
+returns c =
+    let known = c.before.before in
+    let carries = known.before in
+    let wide = carries.before in
+    let held = wide.before.before in
+    let some = held.before.before.before in
+    let a = some.before in
+    let m = a.args.m.now in
+    let r = known.conditions_of-c.result in
+    let e = known.conditions_of-c.ensures in record { n_nonzero = λ h. (
+        omega (arith, some.if-n-eq0.false),
+        none_held (state_at m).transfer.scsi (omega (arith, held.if-m-gt0.false, scsi_held m a.requires.image)),
+        omega (arith, carries.if-wide-n-gt255.false, wide.wide.ensures, low_held m a.requires.image a.args.n),
+      ); m_value = λ h.
+          let both = left_true (r.enabled && r.outbound) r.synchronous h in (
+            sym (ap (λ (d : Conditions). d.enabled) e) ∙ left_true r.enabled r.outbound both,
+            sym (ap (λ (d : Conditions). d.outbound) e) ∙ right_true r.enabled r.outbound both,
+            sym (ap (λ (d : Conditions). d.synchronous) e) ∙ right_true (r.enabled && r.outbound) r.synchronous h,
+          ) }

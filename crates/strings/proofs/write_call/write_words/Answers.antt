@@ -1,0 +1,53 @@
+-- The words written to an image, between a chip that is laid out and one that is taken up.
+use mathlib.Core.Path.{◌≡◌, sym, ◌∙◌}
+use mathlib.Core.Bool.{true}
+use lib.ListN.{length}
+use borrow.Author.Rules.{rules}
+use borrow.Author.Tests.{not-true, not-false}
+use Rattle.words.specs.Calls.{writable}
+use Rattle.strings.proofs.Fits.{writable_length, writable_room}
+use Rattle.strings.proofs.ByValue.{entered_tidy}
+use Rattle.strings.proofs.WriteCall.{other_sizes, image_written_lem, all_written}
+use Rattle.strings.proofs.write_call.write_words.Goals as goal
+
+-- the buffers fit
+fits : (c : goal.Else-not-is_writable) → let a = c.args in writable (length a.bytes.now) a.words (length a.out.now) ≡ true
+fits c = sym c.is_writable.ensures ∙ not-false c.is_writable.result c.if-not-is_writable.false
+
+pub returns-then-not-is_writable : goal.returns-then-not-is_writable
+returns-then-not-is_writable c =
+    let test = c.before in
+    let tidied = test.before in
+    let a = tidied.args in
+    other_sizes tidied.tidied-chip.ensures a.bytes.now a.words a.out.now
+    (sym test.is_writable.ensures ∙ not-true test.is_writable.result c.if-not-is_writable.true)
+
+pub store-requires : goal.store-requires
+store-requires c = entered_tidy c.tidied-chip.ensures
+
+pub written_over-r-requires : goal.written_over-r-requires
+written_over-r-requires c =
+    let store = c.before.before in
+    let test = store.before.before in
+    let a = test.args in
+    let bytes = length a.bytes.now in
+    let room = length a.out.now in
+    record { image = store.store.ensures.sound; bytes_len = writable_length bytes a.words room (fits test); words_in_bounds = writable_room bytes a.words room (fits test) }
+
+pub load-last-requires : goal.load-last-requires
+load-last-requires c =
+    let written = c.before.before.before in
+    let store = written.before.before.before in
+    let tidied = store.before.before.before.before in
+    let a = tidied.args in
+    image_written_lem tidied.tidied-chip.ensures a.bytes.now a.words a.out.now store.store.ensures written.written_over-r.ensures
+
+pub returns : goal.returns
+returns c =
+    let written = c.before.before.before in
+    let store = written.before.before.before in
+    let test = store.before.before in
+    let tidied = test.before.before in
+    let a = tidied.args in
+    all_written tidied.tidied-chip.ensures a.bytes.now a.words a.out.now store.store.ensures written.written_over-r.ensures (fits test)
+    c.load-last.ensures

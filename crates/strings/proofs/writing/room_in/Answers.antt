@@ -1,0 +1,16 @@
+use mathlib.Core.Path.{◌≡◌, ◌∙◌}
+use native.Mathlib.Omega.{arith}
+use lib.ListN.{length}
+use borrow.Author.Rules.{rules}
+use Rattle.image.specs.Image.{state_at}
+use Rattle.settling.proofs.Carries.{host_held}
+use Rattle.strings.proofs.writing.room_in.Goals as goal
+
+counted : (c : goal.After-wide) → c.wide.result ≡ length (state_at c.args.m.now).transfer.host
+counted c = c.wide.ensures ∙ host_held c.args.m.now c.requires
+
+pub overflow_sub-result : goal.overflow_sub-result
+overflow_sub-result c = omega (arith, counted c, c.requires.range.transfer.host)
+
+pub returns : goal.returns
+returns c = rw (counted c)

@@ -1,0 +1,51 @@
+use mathlib.Core.Path.{◌≡◌, sym, ◌∙◌, ap}
+use mathlib.Core.Bool.{true}
+use lib.ListN.{length}
+use borrow.Author.Rules.{rules}
+use borrow.Author.Tests.{not-true, not-false}
+use Rattle.saved.proofs.Acceptance.{acceptable_length}
+use Rattle.wordhost.proofs.OverWords.{read_refused, read_image, read_done}
+use Rattle.wordhost.proofs.words_over.image_read.Goals as goal
+
+-- the image is accepted
+accepts : (c : goal.Else-not-is_taken) → c.is_taken.result ≡ true
+accepts c = not-false c.is_taken.result c.if-not-is_taken.false
+
+pub returns-then-not-is_taken : goal.returns-then-not-is_taken
+returns-then-not-is_taken c =
+    let taken = c.before.before in
+    let a = taken.args in
+    read_refused a.image.now a.words a.out.now
+    (sym taken.is_taken.ensures.tested ∙ not-true taken.is_taken.result c.if-not-is_taken.true) c.not_done.ensures
+
+pub words_read-r-requires : goal.words_read-r-requires
+words_read-r-requires c =
+    let test = c.before.before in
+    test.is_taken.ensures.sound (accepts test)
+
+pub slice_bounds-copy-end : goal.slice_bounds-copy-end
+slice_bounds-copy-end c =
+    let called = c.before.before.before in
+    let test = called.before.before.before in
+    let a = test.args in
+    sym (acceptable_length _ (read_image (test.is_taken.ensures.sound (accepts test)) a.words a.out.now called.words_read-r.ensures))
+
+pub copy-requires : goal.copy-requires
+copy-requires c =
+    let called = c.before.before.before.before in
+    let test = called.before.before.before in
+    let a = test.args in
+    let taken = test.is_taken.ensures in
+    let i = taken.sound (accepts test) in
+    acceptable_length _ (read_image i a.words a.out.now called.words_read-r.ensures) ∙ sym (acceptable_length _ i)
+    ∙ ap length (taken.copied (accepts test))
+
+pub returns : goal.returns
+returns c =
+    let copied = c.before.before in
+    let called = copied.before.before.before.before in
+    let test = called.before.before.before in
+    let a = test.args in
+    let taken = test.is_taken.ensures in
+    read_done a.image.now a.words a.out.now (sym taken.tested ∙ accepts test) (taken.copied (accepts test))
+    called.words_read-r.ensures copied.copy.ensures

@@ -1,0 +1,36 @@
+use mathlib.Core.Path.{◌≡◌, sym, ◌∙◌}
+use mathlib.Core.Bool.{true}
+use lib.ListN.{length}
+use borrow.Author.Rules.{rules}
+use borrow.Author.Tests.{not-true, not-false}
+use Rattle.words.specs.Calls.{readable}
+use Rattle.strings.proofs.Fits.{readable_length}
+use Rattle.wordhost.proofs.OverWords.{not_read, all_read}
+use Rattle.wordhost.proofs.words_over.words_read.Goals as goal
+
+-- the buffer fits
+fits : (c : goal.Else-not-is_readable) → readable (length c.args.out.now) c.args.words ≡ true
+fits c = sym c.is_readable.ensures ∙ not-false c.is_readable.result c.if-not-is_readable.false
+
+pub returns-then-not-is_readable : goal.returns-then-not-is_readable
+returns-then-not-is_readable c =
+    let test = c.before.before in
+    let start = test.before.before in
+    let a = start.args in
+    not_read start.requires a.words a.out.now
+    (sym test.is_readable.ensures ∙ not-true test.is_readable.result c.if-not-is_readable.true) c.not_done.ensures
+
+pub fetched_over-requires : goal.fetched_over-requires
+fetched_over-requires c =
+    let test = c.before.before in
+    let start = test.before.before.before in
+    let a = start.args in
+    record { image = start.requires; out_len = readable_length (length a.out.now) a.words (fits test) }
+
+pub returns : goal.returns
+returns c =
+    let fetched = c.before.before in
+    let test = fetched.before.before.before in
+    let start = test.before.before.before in
+    let a = start.args in
+    all_read start.requires a.words a.out.now (fits test) fetched.fetched_over.ensures

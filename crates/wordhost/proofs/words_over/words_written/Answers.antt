@@ -1,0 +1,38 @@
+use mathlib.Core.Path.{◌≡◌, sym, ◌∙◌}
+use mathlib.Core.Bool.{true}
+use lib.ListN.{length}
+use borrow.Author.Rules.{rules}
+use borrow.Author.Tests.{not-true, not-false}
+use Rattle.words.specs.Calls.{writable}
+use Rattle.strings.proofs.Fits.{writable_length, writable_room}
+use Rattle.wordhost.proofs.OverWords.{not_written_lem, all_written}
+use Rattle.wordhost.proofs.words_over.words_written.Goals as goal
+
+-- the buffers fit
+fits : (c : goal.Else-not-is_writable) → let a = c.args in writable (length a.bytes.now) a.words (length a.out.now) ≡ true
+fits c = sym c.is_writable.ensures ∙ not-false c.is_writable.result c.if-not-is_writable.false
+
+pub returns-then-not-is_writable : goal.returns-then-not-is_writable
+returns-then-not-is_writable c =
+    let test = c.before.before in
+    let start = test.before.before.before in
+    let a = start.args in
+    not_written_lem start.requires a.bytes.now a.words a.out.now
+    (sym test.is_writable.ensures ∙ not-true test.is_writable.result c.if-not-is_writable.true) c.not_done.ensures
+
+pub written_over-requires : goal.written_over-requires
+written_over-requires c =
+    let test = c.before.before in
+    let start = test.before.before.before.before in
+    let a = start.args in
+    let bytes = length a.bytes.now in
+    let room = length a.out.now in
+    record { image = start.requires; bytes_len = writable_length bytes a.words room (fits test); words_in_bounds = writable_room bytes a.words room (fits test) }
+
+pub returns : goal.returns
+returns c =
+    let written = c.before.before in
+    let test = written.before.before.before in
+    let start = test.before.before.before.before in
+    let a = start.args in
+    all_written start.requires a.bytes.now a.words a.out.now (fits test) written.written_over.ensures

@@ -1,0 +1,10 @@
+use borrow.Author.Rules.{rules}
+use Rattle.rules.specs.Events.{writes, value_of}
+use Rattle.rules.specs.Sequencer.{selection_asked}
+use Rattle.rules.specs.StepA.{registers_a, gives_up}
+use Rattle.image.specs.Image.{state_at}
+use Rattle.writes.proofs.selecting.gives_up.Goals as goal
+
+pub returns : goal.returns
+unfolding gives_up registers_a selection_asked writes value_of state_at
+returns c = rw (c.is_selecting.ensures, c.is_holding.ensures, c.phase-p.ensures)
