@@ -1,6 +1,5 @@
 pub mod Places
 pub mod Tidied
-pub mod LentWalk
 pub mod Apart
 pub mod AsBefore
 pub mod Others

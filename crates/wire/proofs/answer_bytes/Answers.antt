@@ -6,11 +6,12 @@ use borrow.Author.Rules.{rules}
 use Rattle.rules.specs.Answers.{answer_bytes}
 use Rattle.laws.proofs.Lists.{elements_all}
 use Rattle.wire.proofs.answer_bytes.Goals as goal
+use Rattle.wire.proofs.answer_bytes.Goals.{Start}
 
 pub overflow_cast-low : goal.overflow_cast-low
 overflow_cast-low c = record { fits = mask_lt c.args.a.value 8 }
 
-eight : (c : goal.Start) → length c.args.a.sent ≡ 8
+eight : (c : Start) → length c.args.a.sent ≡ 8
 eight c = search rules
 
 pub returns : goal.returns
