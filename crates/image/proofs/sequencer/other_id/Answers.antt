@@ -12,3 +12,7 @@ returns c =
     let k : ℕ = c.args.id / 1 % 8 in
     let e : k ≡ k % 8 = omega arith in
     shl_one 8 k (omega arith) ∙ ap (λ (n : ℕ). 2 ^ n) e
+
+pub overflow_shl-result : goal.overflow_shl-result
+unfolding other_id
+overflow_shl-result c = search rules

@@ -2,6 +2,62 @@ use borrow.Author.Rules.{rules}
 use Rattle.rules.specs.Seen.{phase_data}
 use Rattle.image.proofs.sequencer.phase_data.Goals as goal
 
+pub enum_told-1 : goal.enum_told-1
+unfolding phase_data
+enum_told-1 c = search rules
+
+pub enum_told-in-Waiting : goal.enum_told-in-Waiting
+unfolding phase_data
+enum_told-in-Waiting c = search rules
+
+pub enum_told-in-Arbitrating : goal.enum_told-in-Arbitrating
+unfolding phase_data
+enum_told-in-Arbitrating c = search rules
+
+pub own_id-requires : goal.own_id-requires
+unfolding phase_data
+own_id-requires c = search rules
+
+pub enum_told-in-Clearing : goal.enum_told-in-Clearing
+unfolding phase_data
+enum_told-in-Clearing c = search rules
+
+pub own_id-requires-in-Clearing : goal.own_id-requires-in-Clearing
+unfolding phase_data
+own_id-requires-in-Clearing c = search rules
+
+pub enum_told-in-Selecting : goal.enum_told-in-Selecting
+unfolding phase_data
+enum_told-in-Selecting c = search rules
+
+pub own_id-requires-in-Selecting : goal.own_id-requires-in-Selecting
+unfolding phase_data
+own_id-requires-in-Selecting c = search rules
+
+pub other_id-requires : goal.other_id-requires
+unfolding phase_data
+other_id-requires c = search rules
+
+pub enum_told-in-Holding : goal.enum_told-in-Holding
+unfolding phase_data
+enum_told-in-Holding c = search rules
+
+pub own_id-requires-in-Holding : goal.own_id-requires-in-Holding
+unfolding phase_data
+own_id-requires-in-Holding c = search rules
+
+pub other_id-requires-in-Holding : goal.other_id-requires-in-Holding
+unfolding phase_data
+other_id-requires-in-Holding c = search rules
+
+pub enum_told-in-Answering : goal.enum_told-in-Answering
+unfolding phase_data
+enum_told-in-Answering c = search rules
+
+pub enum_told-in-Answered : goal.enum_told-in-Answered
+unfolding phase_data
+enum_told-in-Answered c = search rules
+
 pub returns-in-Idle : goal.returns-in-Idle
 unfolding phase_data
 returns-in-Idle c = rw c.in-Idle.is

@@ -3,6 +3,38 @@ use borrow.Author.Rules.{rules}
 use Rattle.rules.specs.Seen.{phase_number}
 use Rattle.image.proofs.sequencer.phase_number.Goals as goal
 
+pub enum_told-1 : goal.enum_told-1
+unfolding phase_number
+enum_told-1 c = search rules
+
+pub enum_told-in-Waiting : goal.enum_told-in-Waiting
+unfolding phase_number
+enum_told-in-Waiting c = search rules
+
+pub enum_told-in-Arbitrating : goal.enum_told-in-Arbitrating
+unfolding phase_number
+enum_told-in-Arbitrating c = search rules
+
+pub enum_told-in-Clearing : goal.enum_told-in-Clearing
+unfolding phase_number
+enum_told-in-Clearing c = search rules
+
+pub enum_told-in-Selecting : goal.enum_told-in-Selecting
+unfolding phase_number
+enum_told-in-Selecting c = search rules
+
+pub enum_told-in-Holding : goal.enum_told-in-Holding
+unfolding phase_number
+enum_told-in-Holding c = search rules
+
+pub enum_told-in-Answering : goal.enum_told-in-Answering
+unfolding phase_number
+enum_told-in-Answering c = search rules
+
+pub enum_told-in-Answered : goal.enum_told-in-Answered
+unfolding phase_number
+enum_told-in-Answered c = search rules
+
 pub returns-in-Idle : goal.returns-in-Idle
 unfolding phase_number
 returns-in-Idle c = rw c.in-Idle.is

@@ -7,6 +7,210 @@ use Rattle.image.proofs.AtPlaces.{at_brstcntrl, at_bus, at_counter0, at_counter1
 use Rattle.reads.proofs.Unread.{unread}
 use Rattle.reads.proofs.values.read_register.Goals as goal
 
+pub enum_told-1 : goal.enum_told-1
+unfolding read_of
+enum_told-1 c = search rules
+
+pub bounds-m-0 : goal.bounds-m-0
+unfolding read_of
+bounds-m-0 c = search rules
+
+pub enum_told-in-SXFRCTL0 : goal.enum_told-in-SXFRCTL0
+unfolding read_of
+enum_told-in-SXFRCTL0 c = search rules
+
+pub bounds-m-1 : goal.bounds-m-1
+unfolding read_of
+bounds-m-1 c = search rules
+
+pub enum_told-in-SXFRCTL1 : goal.enum_told-in-SXFRCTL1
+unfolding read_of
+enum_told-in-SXFRCTL1 c = search rules
+
+pub bounds-m-2 : goal.bounds-m-2
+unfolding read_of
+bounds-m-2 c = search rules
+
+pub enum_told-in-SCSISIGI : goal.enum_told-in-SCSISIGI
+unfolding read_of
+enum_told-in-SCSISIGI c = search rules
+
+pub scsisigi-requires : goal.scsisigi-requires
+unfolding read_of
+scsisigi-requires c = search rules
+
+pub enum_told-in-SELID : goal.enum_told-in-SELID
+unfolding read_of
+enum_told-in-SELID c = search rules
+
+pub bounds-m-29 : goal.bounds-m-29
+unfolding read_of
+bounds-m-29 c = search rules
+
+pub enum_told-in-SCSIDAT : goal.enum_told-in-SCSIDAT
+unfolding read_of
+enum_told-in-SCSIDAT c = search rules
+
+pub data_seen-requires : goal.data_seen-requires
+unfolding read_of
+data_seen-requires c = search rules
+
+pub enum_told-in-SCSIBUS : goal.enum_told-in-SCSIBUS
+unfolding read_of
+enum_told-in-SCSIBUS c = search rules
+
+pub data_seen-requires-in-SCSIBUS : goal.data_seen-requires-in-SCSIBUS
+unfolding read_of
+data_seen-requires-in-SCSIBUS c = search rules
+
+pub enum_told-in-STCNT0 : goal.enum_told-in-STCNT0
+unfolding read_of
+enum_told-in-STCNT0 c = search rules
+
+pub bounds-m-34 : goal.bounds-m-34
+unfolding read_of
+bounds-m-34 c = search rules
+
+pub enum_told-in-STCNT1 : goal.enum_told-in-STCNT1
+unfolding read_of
+enum_told-in-STCNT1 c = search rules
+
+pub bounds-m-33 : goal.bounds-m-33
+unfolding read_of
+bounds-m-33 c = search rules
+
+pub enum_told-in-STCNT2 : goal.enum_told-in-STCNT2
+unfolding read_of
+enum_told-in-STCNT2 c = search rules
+
+pub bounds-m-32 : goal.bounds-m-32
+unfolding read_of
+bounds-m-32 c = search rules
+
+pub enum_told-in-SSTAT0 : goal.enum_told-in-SSTAT0
+unfolding read_of
+enum_told-in-SSTAT0 c = search rules
+
+pub sstat0-requires : goal.sstat0-requires
+unfolding read_of
+sstat0-requires c = search rules
+
+pub enum_told-in-SSTAT1 : goal.enum_told-in-SSTAT1
+unfolding read_of
+enum_told-in-SSTAT1 c = search rules
+
+pub sstat1-requires : goal.sstat1-requires
+unfolding read_of
+sstat1-requires c = search rules
+
+pub enum_told-in-SSTAT2 : goal.enum_told-in-SSTAT2
+unfolding read_of
+enum_told-in-SSTAT2 c = search rules
+
+pub sstat2-requires : goal.sstat2-requires
+unfolding read_of
+sstat2-requires c = search rules
+
+pub enum_told-in-SSTAT3 : goal.enum_told-in-SSTAT3
+unfolding read_of
+enum_told-in-SSTAT3 c = search rules
+
+pub sstat3-requires : goal.sstat3-requires
+unfolding read_of
+sstat3-requires c = search rules
+
+pub enum_told-in-SSTAT4 : goal.enum_told-in-SSTAT4
+unfolding read_of
+enum_told-in-SSTAT4 c = search rules
+
+pub sstat4-requires : goal.sstat4-requires
+unfolding read_of
+sstat4-requires c = search rules
+
+pub enum_told-in-SIMODE0 : goal.enum_told-in-SIMODE0
+unfolding read_of
+enum_told-in-SIMODE0 c = search rules
+
+pub bounds-m-7 : goal.bounds-m-7
+unfolding read_of
+bounds-m-7 c = search rules
+
+pub enum_told-in-SIMODE1 : goal.enum_told-in-SIMODE1
+unfolding read_of
+enum_told-in-SIMODE1 c = search rules
+
+pub bounds-m-8 : goal.bounds-m-8
+unfolding read_of
+bounds-m-8 c = search rules
+
+pub enum_told-in-DMACNTRL0 : goal.enum_told-in-DMACNTRL0
+unfolding read_of
+enum_told-in-DMACNTRL0 c = search rules
+
+pub bounds-m-9 : goal.bounds-m-9
+unfolding read_of
+bounds-m-9 c = search rules
+
+pub enum_told-in-DMACNTRL1 : goal.enum_told-in-DMACNTRL1
+unfolding read_of
+enum_told-in-DMACNTRL1 c = search rules
+
+pub dmacntrl1-requires : goal.dmacntrl1-requires
+unfolding read_of
+dmacntrl1-requires c = search rules
+
+pub enum_told-in-DMASTAT : goal.enum_told-in-DMASTAT
+unfolding read_of
+enum_told-in-DMASTAT c = search rules
+
+pub dmastat-requires : goal.dmastat-requires
+unfolding read_of
+dmastat-requires c = search rules
+
+pub enum_told-in-FIFOSTAT : goal.enum_told-in-FIFOSTAT
+unfolding read_of
+enum_told-in-FIFOSTAT c = search rules
+
+pub bounds-m-31 : goal.bounds-m-31
+unfolding read_of
+bounds-m-31 c = search rules
+
+pub enum_told-in-DMADATA : goal.enum_told-in-DMADATA
+unfolding read_of
+enum_told-in-DMADATA c = search rules
+
+pub bounds-m-75 : goal.bounds-m-75
+unfolding read_of
+bounds-m-75 c = search rules
+
+pub enum_told-in-BRSTCNTRL : goal.enum_told-in-BRSTCNTRL
+unfolding read_of
+enum_told-in-BRSTCNTRL c = search rules
+
+pub bounds-m-11 : goal.bounds-m-11
+unfolding read_of
+bounds-m-11 c = search rules
+
+pub enum_told-in-REV : goal.enum_told-in-REV
+unfolding read_of
+enum_told-in-REV c = search rules
+
+pub enum_told-in-STACK : goal.enum_told-in-STACK
+unfolding read_of
+enum_told-in-STACK c = search rules
+
+pub stack_byte-requires : goal.stack_byte-requires
+unfolding read_of
+stack_byte-requires c = search rules
+
+pub enum_told-in-ID : goal.enum_told-in-ID
+unfolding read_of
+enum_told-in-ID c = search rules
+
+pub id_byte-requires : goal.id_byte-requires
+unfolding read_of
+id_byte-requires c = search rules
+
 pub returns-in-SCSISEQ : goal.returns-in-SCSISEQ
 unfolding read_of
 returns-in-SCSISEQ c = rw c.in-SCSISEQ.is (at_scsiseq c.args.m.now c.requires)

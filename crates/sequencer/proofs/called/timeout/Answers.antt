@@ -30,3 +30,11 @@ returns-then-q-3 c = rw (c.if-q.false, c.if-q-3.true) at (by_bits c.sxfrctl1_of-
 pub returns-else-q-3 : goal.returns-else-q-3
 unfolding state_at
 returns-else-q-3 c = rw (c.if-q.false, c.if-q-3.false) at (by_bits c.sxfrctl1_of-q.result (state_at c.args.m.now) c.sxfrctl1_of-q.ensures)
+
+pub bounds-m-2 : goal.bounds-m-2
+unfolding state_at
+bounds-m-2 c = search rules
+
+pub sxfrctl1_of-q-requires : goal.sxfrctl1_of-q-requires
+unfolding state_at
+sxfrctl1_of-q-requires c = search rules

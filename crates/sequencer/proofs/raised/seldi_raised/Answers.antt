@@ -6,3 +6,15 @@ use Rattle.sequencer.proofs.raised.seldi_raised.Goals as goal
 pub returns : goal.returns
 unfolding state_at seldi_raised
 returns c = cc
+
+pub bounds-m-7 : goal.bounds-m-7
+unfolding state_at seldi_raised
+bounds-m-7 c = search rules
+
+pub simode0_of-enables-requires : goal.simode0_of-enables-requires
+unfolding state_at seldi_raised
+simode0_of-enables-requires c = search rules
+
+pub latch_raised-latch-requires : goal.latch_raised-latch-requires
+unfolding state_at seldi_raised
+latch_raised-latch-requires c = search rules

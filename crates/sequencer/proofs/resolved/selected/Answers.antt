@@ -34,3 +34,23 @@ returns-else-test c =
     let phase = first.before in
     let start = phase.before in
     rw c.if-test.false at (by_tests (state_at start.args.m.now) start.args.x (first.is_phase.ensures ∙ ap (is_phase Selecting) phase.phase_in-p.ensures) (second.is_phase-2.ensures ∙ ap (is_phase Holding) phase.phase_in-p.ensures) bsy.bsy_of_others.ensures)
+
+pub phase_in-p-requires : goal.phase_in-p-requires
+unfolding selected
+phase_in-p-requires c = search rules
+
+pub is_phase-requires : goal.is_phase-requires
+unfolding selected
+is_phase-requires c = search rules
+
+pub is_phase-requires-2 : goal.is_phase-requires-2
+unfolding selected
+is_phase-requires-2 c = search rules
+
+pub bsy_of_others-requires : goal.bsy_of_others-requires
+unfolding selected
+bsy_of_others-requires c = search rules
+
+pub connects-requires : goal.connects-requires
+unfolding selected
+connects-requires c = search rules

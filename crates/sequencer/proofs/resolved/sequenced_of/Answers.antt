@@ -17,3 +17,23 @@ returns c =
       atno = c.atno.ensures i;
       quiet = get_or m quiet_place 0;
     }
+
+pub sequencer-q-requires : goal.sequencer-q-requires
+unfolding state_at sequenced_of
+sequencer-q-requires c = search rules
+
+pub bounds-m-0 : goal.bounds-m-0
+unfolding state_at sequenced_of
+bounds-m-0 c = search rules
+
+pub scsiseq_of-control-requires : goal.scsiseq_of-control-requires
+unfolding state_at sequenced_of
+scsiseq_of-control-requires c = search rules
+
+pub atno-requires : goal.atno-requires
+unfolding state_at sequenced_of
+atno-requires c = search rules
+
+pub bounds-m-20 : goal.bounds-m-20
+unfolding state_at sequenced_of
+bounds-m-20 c = search rules

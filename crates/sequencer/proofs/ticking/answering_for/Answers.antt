@@ -10,3 +10,11 @@ returns-then-n-ge8 c = rw (le-leb 8 c.args.n c.if-n-ge8.true) c.reselected.ensur
 pub returns-else-n-ge8 : goal.returns-else-n-ge8
 unfolding answering_for
 returns-else-n-ge8 c = rw (lt-leb 8 c.args.n c.if-n-ge8.false) c.waited.ensures
+
+pub reselected-requires : goal.reselected-requires
+unfolding answering_for
+reselected-requires c = search rules
+
+pub waited-requires : goal.waited-requires
+unfolding answering_for
+waited-requires c = search rules

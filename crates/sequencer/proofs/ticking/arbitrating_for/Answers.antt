@@ -18,3 +18,19 @@ returns-then-n-ge48 c =
 pub returns-else-n-ge48 : goal.returns-else-n-ge48
 unfolding arbitrating_for
 returns-else-n-ge48 c = rw (lt-leb 48 c.args.n c.if-n-ge48.false) c.waited.ensures
+
+pub higher_id-requires : goal.higher_id-requires
+unfolding arbitrating_for
+higher_id-requires c = search rules
+
+pub arbitrated-p-requires : goal.arbitrated-p-requires
+unfolding arbitrating_for
+arbitrated-p-requires c = search rules
+
+pub entered-requires : goal.entered-requires
+unfolding arbitrating_for
+entered-requires c = search rules
+
+pub waited-requires : goal.waited-requires
+unfolding arbitrating_for
+waited-requires c = search rules

@@ -10,3 +10,11 @@ returns-then-n-ge24 c = rw (le-leb 24 c.args.n c.if-n-ge24.true) c.selects.ensur
 pub returns-else-n-ge24 : goal.returns-else-n-ge24
 unfolding clearing_for
 returns-else-n-ge24 c = rw (lt-leb 24 c.args.n c.if-n-ge24.false) c.waited.ensures
+
+pub selects-requires : goal.selects-requires
+unfolding clearing_for
+selects-requires c = search rules
+
+pub waited-requires : goal.waited-requires
+unfolding clearing_for
+waited-requires c = search rules

@@ -17,3 +17,23 @@ returns c =
       atno = (c.scsiseq_of-control.ensures i).enautoatni || x.atno;
       quiet = x.quiet;
     }
+
+pub bounds-m-14 : goal.bounds-m-14
+unfolding state_at reselected
+bounds-m-14 c = search rules
+
+pub in_phase-requires : goal.in_phase-requires
+unfolding state_at reselected
+in_phase-requires c = search rules
+
+pub seldi_raised-n-requires : goal.seldi_raised-n-requires
+unfolding state_at reselected
+seldi_raised-n-requires c = search rules
+
+pub bounds-m-0 : goal.bounds-m-0
+unfolding state_at reselected
+bounds-m-0 c = search rules
+
+pub scsiseq_of-control-requires : goal.scsiseq_of-control-requires
+unfolding state_at reselected
+scsiseq_of-control-requires c = search rules

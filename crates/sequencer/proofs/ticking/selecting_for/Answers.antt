@@ -17,3 +17,15 @@ returns-else-timeout-n c =
     let start = c.before.before.before in
     let t = c.timeout in
     rw (← t.ensures, lt-leb t.result start.args.n c.if-timeout-n.false) c.waited.ensures
+
+pub timeout-requires : goal.timeout-requires
+unfolding selecting_for
+timeout-requires c = search rules
+
+pub times_out-requires : goal.times_out-requires
+unfolding selecting_for
+times_out-requires c = search rules
+
+pub waited-requires : goal.waited-requires
+unfolding selecting_for
+waited-requires c = search rules

@@ -17,3 +17,19 @@ returns c =
       atno = (c.scsiseq_of-control.ensures i).enautoatno || x.atno;
       quiet = x.quiet;
     }
+
+pub in_phase-requires : goal.in_phase-requires
+unfolding state_at selects
+in_phase-requires c = search rules
+
+pub selingo_raised-n-requires : goal.selingo_raised-n-requires
+unfolding state_at selects
+selingo_raised-n-requires c = search rules
+
+pub bounds-m-0 : goal.bounds-m-0
+unfolding state_at selects
+bounds-m-0 c = search rules
+
+pub scsiseq_of-control-requires : goal.scsiseq_of-control-requires
+unfolding state_at selects
+scsiseq_of-control-requires c = search rules

@@ -21,3 +21,23 @@ returns c =
       atno = x.atno;
       quiet = x.quiet;
     }
+
+pub bounds-m-8 : goal.bounds-m-8
+unfolding state_at times_out
+bounds-m-8 c = search rules
+
+pub simode1_of-enables-requires : goal.simode1_of-enables-requires
+unfolding state_at times_out
+simode1_of-enables-requires c = search rules
+
+pub timed_out-p-requires : goal.timed_out-p-requires
+unfolding state_at times_out
+timed_out-p-requires c = search rules
+
+pub in_phase-requires : goal.in_phase-requires
+unfolding state_at times_out
+in_phase-requires c = search rules
+
+pub selto_raised-n-requires : goal.selto_raised-n-requires
+unfolding state_at times_out
+selto_raised-n-requires c = search rules

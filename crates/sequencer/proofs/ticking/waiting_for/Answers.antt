@@ -10,3 +10,11 @@ returns-then-n-ge16 c = rw (le-leb 16 c.args.n c.if-n-ge16.true) c.arbitrates.en
 pub returns-else-n-ge16 : goal.returns-else-n-ge16
 unfolding waiting_for
 returns-else-n-ge16 c = rw (lt-leb 16 c.args.n c.if-n-ge16.false) c.waited.ensures
+
+pub arbitrates-requires : goal.arbitrates-requires
+unfolding waiting_for
+arbitrates-requires c = search rules
+
+pub waited-requires : goal.waited-requires
+unfolding waiting_for
+waited-requires c = search rules
