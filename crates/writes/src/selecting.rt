@@ -12,7 +12,7 @@ ghost use Rattle.image.specs.Image.{IsImage, image_of, state_at};
 ghost use Rattle.writes.specs.SequencerWritten.{sequencer_written, gives_up_by, gave_up, with_selections};
 ghost use Rattle.writes.specs.WrittenRegister.{Written};
 
-use image::layout::{Image, QUIET, SIMODE0, SIMODE1, SXFRCTL1};
+use image::layout::{Image, QUIET, SXFRCTL1};
 use image::sequencer::{phase, sequencer, sequencer_put};
 use rules::chip::{Phase, Selection, Sequencer};
 use rules::map::Register;
@@ -173,7 +173,7 @@ fn selection_enabled(m: &Image, value: u8) -> Sequencer
     ensures { result ≡ sequencer_written SIMODE0 (state_at m.now) value }
 {
     let q = sequencer(m);
-    let before = m[SIMODE0];
+    let before = m[image::layout::SIMODE0];
     let t = q.status;
     let k = q.latches;
     let latches = Selection {
@@ -205,7 +205,7 @@ fn timeout_enabled(m: &Image, value: u8) -> Sequencer
     ensures { result ≡ sequencer_written SIMODE1 (state_at m.now) value }
 {
     let q = sequencer(m);
-    let before = m[SIMODE1];
+    let before = m[image::layout::SIMODE1];
     let t = q.status;
     let k = q.latches;
     let latches = Selection {

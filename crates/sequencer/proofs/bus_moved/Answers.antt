@@ -12,6 +12,7 @@ use Rattle.sequencer.specs.Since.{bus_since}
 use Rattle.sequencer.proofs.InPlace.{reads_back, packed_back, image_again, unless_rests, quiet_at}
 use Rattle.sequencer.proofs.Resting.{rests_four}
 use Rattle.sequencer.proofs.bus_moved.Goals as goal
+use Rattle.sequencer.proofs.bus_moved.Goals.{After-edges_before-beyond, After-sequenced_unless, Start}
 
 pub sequenced_unless-requires : goal.sequenced_unless-requires
 sequenced_unless-requires c =
@@ -24,11 +25,11 @@ sequenced_unless-requires c =
     image_again (first_four l a.ticks s) edged.edges_before-beyond.ensures.m_after (four_fits l a.ticks s i.range) (bytes_four l a.ticks s i.bytes)
 
 -- once the sequencer had its turn
-module _ (k : goal.After-sequenced_unless) where
-  abbrev edged : goal.After-edges_before-beyond
+module _ (k : After-sequenced_unless) where
+  abbrev edged : After-edges_before-beyond
   edged = k.before.before
 
-  abbrev start : goal.Start
+  abbrev start : Start
   start = edged.before.before.before.before
 
   abbrev now : State

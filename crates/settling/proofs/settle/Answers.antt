@@ -10,13 +10,13 @@ unfolding state_at
 returns-then-not-path c =
     let found = c.before.before in
     let a = found.before in
-    rw c.none-sent.ensures (none_settles a.args.m.now a.requires (sym found.path.ensures ∙ not-true found.path.result c.if-not-path.true))
+    rw c.none-sent.ensures (none_settles a.args.m.now a.requires (sym found.path.ensures ∙ c.if-not-path.true))
 
 pub moving-requires : goal.moving-requires
 moving-requires c =
     let p = c.before.before in
     let a = p.before.before.before in
-    record { image = a.requires; m_value = sym p.possible.ensures ∙ not-true p.possible.result c.if-not-possible.true }
+    record { image = a.requires; m_value = sym p.possible.ensures ∙ c.if-not-possible.true }
 
 pub shaking-requires : goal.shaking-requires
 shaking-requires c =

@@ -8,8 +8,9 @@ use Rattle.rules.proofs.Rest.{measure}
 use Rattle.image.specs.Image.{state_at}
 use Rattle.settling.proofs.BetweenTurns.{Between, Going, started, moved_on, shaken_on, moves_fit, room, settles}
 use Rattle.settling.proofs.shaking.Goals as goal
+use Rattle.settling.proofs.shaking.Goals.{After-moved-more, After-shaken-sent, Start}
 
-byte : (c : goal.Start) → c.args.c.byte < 256
+byte : (c : Start) → c.args.c.byte < 256
 byte c = search rules
 
 pub loop-c-init : goal.loop-c-init
@@ -31,10 +32,10 @@ shaken-sent-requires c =
     record { image = g.between.image; m_value = h; sent_tidy = g.between.tidy; count_bound = (room a.c a.m.now l.loop-c.m (l.loop-c.moves - a.made) l.loop-c.acks l.loop-c.sent g h).1 }
 
 -- a handshake was possible, and led between turns again
-could : (c : goal.After-shaken-sent) → can_handshake c.args.c (state_at c.loop-c.m).transfer ≡ true
+could : (c : After-shaken-sent) → can_handshake c.args.c (state_at c.loop-c.m).transfer ≡ true
 could c = sym c.can_handshake.ensures ∙ c.loop-c-test.true
 
-after_shake : (c : goal.After-shaken-sent) → Between c.args.c c.args.m.now c.shaken-sent.new.m (c.loop-c.moves - c.args.made) (c.loop-c.acks + 1) c.shaken-sent.result × (suc (measure c.args.c (state_at c.shaken-sent.new.m).transfer) ≤ measure c.args.c (state_at c.loop-c.m).transfer)
+after_shake : (c : After-shaken-sent) → Between c.args.c c.args.m.now c.shaken-sent.new.m (c.loop-c.moves - c.args.made) (c.loop-c.acks + 1) c.shaken-sent.result × (suc (measure c.args.c (state_at c.shaken-sent.new.m).transfer) ≤ measure c.args.c (state_at c.loop-c.m).transfer)
 after_shake c =
     let l = c.before.before.before.before in
     let s = l.before.before in
@@ -50,7 +51,7 @@ pub moved-more-requires : goal.moved-more-requires
 moved-more-requires c = (after_shake c.before).0.image
 
 -- after the moves of a turn
-after_turn : (c : goal.After-moved-more) → Going c.args.c c.args.m.now c.moved-more.new.m (c.loop-c.moves - c.args.made + c.moved-more.result) (c.loop-c.acks + 1) c.shaken-sent.result × (measure c.args.c (state_at c.moved-more.new.m).transfer ≤ measure c.args.c (state_at c.shaken-sent.new.m).transfer)
+after_turn : (c : After-moved-more) → Going c.args.c c.args.m.now c.moved-more.new.m (c.loop-c.moves - c.args.made + c.moved-more.result) (c.loop-c.acks + 1) c.shaken-sent.result × (measure c.args.c (state_at c.moved-more.new.m).transfer ≤ measure c.args.c (state_at c.shaken-sent.new.m).transfer)
 after_turn c =
     let k = c.before.before in
     let l = k.before.before.before.before in

@@ -6,8 +6,9 @@ use Rattle.image.specs.Image.{state_at}
 use Rattle.datapath.proofs.Fronts.{image_length, placed_at, host_counts}
 use Rattle.datapath.proofs.Ends.{host_off}
 use Rattle.datapath.proofs.host.host_popped.Goals as goal
+use Rattle.datapath.proofs.host.host_popped.Goals.{After-wide-n}
 
-held : (c : goal.After-wide-n) → c.wide-n.result ≡ length (state_at c.args.m.now).transfer.host
+held : (c : After-wide-n) → c.wide-n.result ≡ length (state_at c.args.m.now).transfer.host
 held c =
     let a = c.before.before.before in
     let p = placed_at a.args.m.now a.requires.image in

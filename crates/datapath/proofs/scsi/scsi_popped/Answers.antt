@@ -7,8 +7,9 @@ use Rattle.datapath.proofs.Fronts.{image_length, placed_at}
 use Rattle.datapath.proofs.Heads.{scsi_counted}
 use Rattle.datapath.proofs.Ends.{scsi_off}
 use Rattle.datapath.proofs.scsi.scsi_popped.Goals as goal
+use Rattle.datapath.proofs.scsi.scsi_popped.Goals.{After-wide-n}
 
-held : (c : goal.After-wide-n) → c.wide-n.result ≡ length (state_at c.args.m.now).transfer.scsi
+held : (c : After-wide-n) → c.wide-n.result ≡ length (state_at c.args.m.now).transfer.scsi
 held c =
     let a = c.before.before.before in
     let p = placed_at a.args.m.now a.requires.image in

@@ -6,9 +6,9 @@ use Rattle.edges.proofs.after.registers_in.Goals as goal
 pub returns-then-not-reset-bad : goal.returns-then-not-reset-bad
 returns-then-not-reset-bad c =
     let a = c.args in
-    rw (not-true (a.reset || a.bad || a.free) c.if-not-reset-bad.true)
+    rw c.if-not-reset-bad.true
 
 pub returns : goal.returns
 returns c =
     let a = c.args in
-    rw (not-false (a.reset || a.bad || a.free) c.if-not-reset-bad.false) c.registers_stored.ensures
+    rw c.if-not-reset-bad.false c.registers_stored.ensures

@@ -17,7 +17,7 @@ returns-then-not-synchronous_req c =
     let asked = c.before in
     let start = asked.before in
     let s = state_at start.args.m.now in
-    let off : call_b s ≡ false = sym asked.synchronous_req.ensures ∙ not-true _ c.if-not-synchronous_req.true in
+    let off : call_b s ≡ false = sym asked.synchronous_req.ensures ∙ c.if-not-synchronous_req.true in
     record { value = rw off; m_after = start.requires ∙ ap image_of (sym (not_within (call_b s) s (rw off))) }
 
 pub returns-then-beyond_limit : goal.returns-then-beyond_limit
@@ -28,7 +28,7 @@ returns-then-beyond_limit c =
     let start = called.before.before in
     let m = start.args.m.now in
     let s = state_at m in
-    let on : call_b s ≡ true = sym called.synchronous_req.ensures ∙ not-false _ called.if-not-synchronous_req.false in
+    let on : call_b s ≡ true = sym called.synchronous_req.ensures ∙ called.if-not-synchronous_req.false in
     let past : beyond_limit s ≡ true = sym (beyond_at m start.requires asked.beyond_limit.ensures) ∙ c.if-beyond_limit.true in
     record { value = rw (on, past); m_after = start.requires ∙ ap image_of (sym (not_within (call_b s) s (rw (on, past)))) }
 
@@ -53,5 +53,5 @@ returns c =
     let start = called.before.before in
     let m = start.args.m.now in
     let s = state_at m in
-    let on : call_b s ≡ true = sym called.synchronous_req.ensures ∙ not-false _ called.if-not-synchronous_req.false in
+    let on : call_b s ≡ true = sym called.synchronous_req.ensures ∙ called.if-not-synchronous_req.false in
     let below : beyond_limit s ≡ false = sym (beyond_at m start.requires asked.beyond_limit.ensures) ∙ tested.if-beyond_limit.false in record { value = rw (below, and-false); m_after = offset_placed _ (inbound_b true s) refl c.inbound_in.ensures ∙ ap image_of (within_limit (call_b s) s (rw (on, below))) }

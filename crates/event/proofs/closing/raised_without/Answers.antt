@@ -12,4 +12,4 @@ pub returns-else-not-way : goal.returns-else-not-way
 returns-else-not-way c =
     let a = c.before in
     let s = state_at a.args.m.now in
-    a.requires.image.packed ∙ ap image_of (unraised s (sym a.requires.way_value ∙ not-false a.args.way c.if-not-way.false))
+    a.requires.image.packed ∙ ap image_of (unraised s (sym a.requires.way_value ∙ c.if-not-way.false))

@@ -18,7 +18,7 @@ returns-then-since-lt72 c =
     record {
       same = refl;
       less = omega arith;
-      marked = λ h. led_nowhere (start.requires.leads (omega (arith, h))) (sym c.is_nothing.ensures ∙ not-false c.is_nothing.result c.if-not-is_nothing.false);
+      marked = λ h. led_nowhere (start.requires.leads (omega (arith, h))) (sym c.is_nothing.ensures ∙ c.if-not-is_nothing.false);
     }
 
 pub is_same-requires : goal.is_same-requires
@@ -38,7 +38,7 @@ returns-then-is_same c =
     let some : 0 < 72 = omega arith in
     let small : left % 72 < 72 = mod-lt left some in
     record {
-      same = led_round start.requires.image led (omega (arith, tests.if-since-lt72.false, late)) (sym tests.is_nothing.ensures ∙ not-false tests.is_nothing.result tests.if-not-is_nothing.false) (same.is_same.ensures.0 c.if-is_same.true) left;
+      same = led_round start.requires.image led (omega (arith, tests.if-since-lt72.false, late)) (sym tests.is_nothing.ensures ∙ tests.if-not-is_nothing.false) (same.is_same.ensures.0 c.if-is_same.true) left;
       less = omega (arith, small, tests.if-left-lt144.false);
       marked = λ h. absurd (omega (arith, h));
     }

@@ -19,9 +19,10 @@ use borrow.Author.Tests.{eqb-true, not-true, not-false}
 use Rattle.rules.proofs.Logic.{left_true, right_true}
 use borrow.Author.Rules.{rules}
 use Rattle.event.proofs.stepping.outcome_of.Goals as goal
+use Rattle.event.proofs.stepping.outcome_of.Goals.{Else-a}
 
 -- what A left, and the record
-begun : (e : goal.Else-a) → starts.Onward (step (state_at e.args.m.now) e.args.bytes.now) e.opened-a.new.m e.seen_in-seen.result (get_or e.args.m.now simode0_place 0) (get_or e.args.m.now simode1_place 0) e.opened-a.result.ticks e.opened-a.result.value
+begun : (e : Else-a) → starts.Onward (step (state_at e.args.m.now) e.args.bytes.now) e.opened-a.new.m e.seen_in-seen.result (get_or e.args.m.now simode0_place 0) (get_or e.args.m.now simode1_place 0) e.opened-a.result.ticks e.opened-a.result.value
 unfolding step state_at
 begun e =
     let a = e.before in
@@ -30,7 +31,7 @@ begun e =
     let m = start.args.m.now in
     starts.opens_onward (state_at m) start.requires.range start.requires.bytes a.opened-a.result (ap rst_of seen.seen_in-seen.ensures ∙ rst_of_lem m) (ap req_of seen.seen_in-seen.ensures ∙ req_of_lem m) (ap mismatched_of seen.seen_in-seen.ensures ∙ mismatched_of_lem m) refl refl (decode start.args.bytes.now) (decode_fits start.args.bytes.now) a.opened-a.ensures e.if-a.false
 
-reported : (e : goal.Else-a) → StepFits (step (state_at e.args.m.now) e.args.bytes.now)
+reported : (e : Else-a) → StepFits (step (state_at e.args.m.now) e.args.bytes.now)
 reported e =
     let start = e.before.before.before.before.before.before.before.before in
     step_fits (state_at start.args.m.now) start.args.bytes.now start.requires.range
@@ -82,7 +83,7 @@ returns-then-not-n c =
     let w = fin.loop-first.invariant _ (begun fin.before.before.before.before.before.before) in
     let l = fin.finished-p.ensures w.ready in
     let g = ahead.onward-n.ensures in
-    turns.turn_last w l c.added-o.ensures (turns.some_left _ _ c.if-first-left.false) g.image (g.none (not-true ahead.onward-n.result.more c.if-not-n.true))
+    turns.turn_last w l c.added-o.ensures (turns.some_left _ _ c.if-first-left.false) g.image (g.none c.if-not-n.true)
 
 pub ticked-requires : goal.ticked-requires
 ticked-requires c = record { image = c.onward-n.ensures.image; n_bound = omega arith }
@@ -90,7 +91,7 @@ ticked-requires c = record { image = c.onward-n.ensures.image; n_bound = omega a
 pub loop-first-smaller : goal.loop-first-smaller
 loop-first-smaller c =
     let g = c.onward-n.ensures in
-    omega (arith, g.less (not-false c.onward-n.result.more c.if-not-n.false))
+    omega (arith, g.less c.if-not-n.false)
 
 pub loop-first-preserved : goal.loop-first-preserved
 unfolding state_at
@@ -102,4 +103,4 @@ loop-first-preserved c y b =
     let g = ahead.onward-n.ensures in
     let seen = c.before.before.before.before.before in
     let m = ahead.onward-n.new.m in
-    turns.turn_next w l c.added-o.ensures c.ticked.result (not-false ahead.onward-n.result.more c.if-not-n.false) g (ap rst_of seen.seen_in-seen-in-loop-first.ensures ∙ rst_of_lem m) (ap req_of seen.seen_in-seen-in-loop-first.ensures ∙ req_of_lem m) (ap mismatched_of seen.seen_in-seen-in-loop-first.ensures ∙ mismatched_of_lem m) refl refl c.ticked.ensures
+    turns.turn_next w l c.added-o.ensures c.ticked.result c.if-not-n.false g (ap rst_of seen.seen_in-seen-in-loop-first.ensures ∙ rst_of_lem m) (ap req_of seen.seen_in-seen-in-loop-first.ensures ∙ req_of_lem m) (ap mismatched_of seen.seen_in-seen-in-loop-first.ensures ∙ mismatched_of_lem m) refl refl c.ticked.ensures

@@ -6,9 +6,10 @@ use Rattle.image.specs.Image.{state_at}
 use Rattle.settling.proofs.ReadBackOfTransfer.{long}
 use Rattle.settling.proofs.Carries.{host_held, behind_host, scsi_there, carried_in}
 use Rattle.settling.proofs.moves.carried_in.Goals as goal
+use Rattle.settling.proofs.moves.carried_in.Goals.{After-wide-held}
 
 -- the count that is read
-fifo_counts : (c : goal.After-wide-held) → c.wide-held.result ≡ length (state_at c.args.m.now).transfer.host
+fifo_counts : (c : After-wide-held) → c.wide-held.result ≡ length (state_at c.args.m.now).transfer.host
 fifo_counts c =
     let a = c.before.before.before in
     c.wide-held.ensures ∙ host_held a.args.m.now a.requires.image

@@ -6,9 +6,10 @@ use Rattle.image.specs.Image.{state_at}
 use Rattle.settling.proofs.ReadBackOfTransfer.{long}
 use Rattle.settling.proofs.Carries.{scsi_held, behind_scsi, host_there, carried_out}
 use Rattle.settling.proofs.moves.carried_out.Goals as goal
+use Rattle.settling.proofs.moves.carried_out.Goals.{After-wide-held}
 
 -- the count that is read
-fifo_counts : (c : goal.After-wide-held) → c.wide-held.result ≡ length (state_at c.args.m.now).transfer.scsi
+fifo_counts : (c : After-wide-held) → c.wide-held.result ≡ length (state_at c.args.m.now).transfer.scsi
 fifo_counts c =
     let a = c.before.before.before in
     c.wide-held.ensures ∙ scsi_held a.args.m.now a.requires.image

@@ -8,13 +8,14 @@ use Rattle.image.specs.Image.{state_at}
 use Rattle.settling.specs.Blocks.{movable}
 use Rattle.settling.proofs.Carries.{scsi_held, host_held}
 use Rattle.settling.proofs.moves.run_length.Goals as goal
+use Rattle.settling.proofs.moves.run_length.Goals.{After-wide-host}
 
-counted_scsi : (c : goal.After-wide-host) → c.wide-scsi.result ≡ length (state_at c.args.m.now).transfer.scsi
+counted_scsi : (c : After-wide-host) → c.wide-scsi.result ≡ length (state_at c.args.m.now).transfer.scsi
 counted_scsi c =
     let a = c.before.before.before.before.before in
     c.wide-scsi.ensures ∙ scsi_held a.args.m.now a.requires
 
-counted_host : (c : goal.After-wide-host) → c.wide-host.result ≡ length (state_at c.args.m.now).transfer.host
+counted_host : (c : After-wide-host) → c.wide-host.result ≡ length (state_at c.args.m.now).transfer.host
 counted_host c =
     let a = c.before.before.before.before.before in
     c.wide-host.ensures ∙ host_held a.args.m.now a.requires

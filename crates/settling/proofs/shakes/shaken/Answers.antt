@@ -9,12 +9,13 @@ use Rattle.settling.specs.Steps.{byte_passed}
 use Rattle.settling.proofs.ReadBackOfTransfer.{kept}
 use Rattle.settling.proofs.Handshakes.{passed_fits, passed_bytes}
 use Rattle.settling.proofs.shakes.shaken.Goals as goal
+use Rattle.settling.proofs.shakes.shaken.Goals.{After-byte_passed-more, Start}
 
-byte : (c : goal.Start) → c.args.c.byte < 256
+byte : (c : Start) → c.args.c.byte < 256
 byte c = search rules
 
 -- after its byte the array is an image
-after : (c : goal.After-byte_passed-more) → IsImage c.byte_passed-more.new.m × (state_at c.byte_passed-more.new.m ≡ with_transfer (byte_passed c.args.c (state_at c.args.m.now).transfer) (state_at c.args.m.now))
+after : (c : After-byte_passed-more) → IsImage c.byte_passed-more.new.m × (state_at c.byte_passed-more.new.m ≡ with_transfer (byte_passed c.args.c (state_at c.args.m.now).transfer) (state_at c.args.m.now))
 after c =
     let a = c.before.before in
     let t = (state_at a.args.m.now).transfer in

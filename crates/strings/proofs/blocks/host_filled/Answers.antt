@@ -8,9 +8,10 @@ use Rattle.datapath.proofs.Ends.{host_behind}
 use Rattle.settling.proofs.Carries.{host_held}
 use Rattle.settling.proofs.ReadBackOfTransfer.{long}
 use Rattle.strings.proofs.blocks.host_filled.Goals as goal
+use Rattle.strings.proofs.blocks.host_filled.Goals.{After-wide-held}
 
 -- the count that is read
-counted : (c : goal.After-wide-held) → c.wide-held.result ≡ length (state_at c.args.m.now).transfer.host
+counted : (c : After-wide-held) → c.wide-held.result ≡ length (state_at c.args.m.now).transfer.host
 counted c =
     let a = c.before.before.before.before in
     c.wide-held.ensures ∙ host_held a.args.m.now a.requires.image

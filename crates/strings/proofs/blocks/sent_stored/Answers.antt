@@ -5,9 +5,10 @@ use native.Mathlib.Omega.{arith}
 use lib.ListN.{length, length-map, length-set}
 use Rattle.image.proofs.Pastes.{Pasted, begun, again, ended}
 use Rattle.strings.proofs.blocks.sent_stored.Goals as goal
+use Rattle.strings.proofs.blocks.sent_stored.Goals.{Start}
 
 -- an array by value has its type's length
-eight : (c : goal.Start) → length c.args.s.bytes ≡ 8
+eight : (c : Start) → length c.args.s.bytes ≡ 8
 eight c = sym (length-map c.args.s.bytes _) ∙ c.well_formed.0.1.1.0.1.0.1
 
 pub loop-i-preserved : goal.loop-i-preserved

@@ -9,9 +9,10 @@ use Rattle.settling.proofs.ReadBackOfTransfer.{offset_held}
 use Rattle.strings.proofs.Settled.{image_settled, block_done}
 use Rattle.strings.proofs.Through.{GoesOut, acks_image, acks_scsi, acks_host, out_settles, none_sent}
 use Rattle.strings.proofs.blocks.settled_in.Goals as goal
+use Rattle.strings.proofs.blocks.settled_in.Goals.{After-smaller-n}
 
 -- as many bytes as are held and have REQs outstanding
-counted : (c : goal.After-smaller-n) → c.smaller-n.result ≡ min (state_at c.args.m.now).transfer.offset (length (state_at c.args.m.now).transfer.host)
+counted : (c : After-smaller-n) → c.smaller-n.result ≡ min (state_at c.args.m.now).transfer.offset (length (state_at c.args.m.now).transfer.host)
 counted c =
     let held = c.before in
     let offset = held.before.before in
@@ -21,7 +22,7 @@ counted c =
     ∙ ap (λ (n : ℕ). min n held.wide-2.result) (offset.wide.ensures ∙ offset_held m start.requires)
     ∙ ap (min (state_at m).transfer.offset) (held.wide-2.ensures ∙ host_held m start.requires)
 
-few : (c : goal.After-smaller-n) → c.smaller-n.result ≤ 8
+few : (c : After-smaller-n) → c.smaller-n.result ≤ 8
 few c = omega (arith, counted c, c.requires.range.transfer.offset)
 
 pub goes_out-requires : goal.goes_out-requires

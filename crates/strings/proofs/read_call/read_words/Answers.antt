@@ -9,10 +9,11 @@ use Rattle.strings.proofs.Fits.{readable_length}
 use Rattle.strings.proofs.ByValue.{entered_tidy}
 use Rattle.strings.proofs.ReadCall.{other_size, image_read, all_read}
 use Rattle.strings.proofs.read_call.read_words.Goals as goal
+use Rattle.strings.proofs.read_call.read_words.Goals.{Else-not-is_readable}
 
 -- the buffer fits
-fits : (c : goal.Else-not-is_readable) → readable (length c.args.out.now) c.args.words ≡ true
-fits c = sym c.is_readable.ensures ∙ not-false c.is_readable.result c.if-not-is_readable.false
+fits : (c : Else-not-is_readable) → readable (length c.args.out.now) c.args.words ≡ true
+fits c = sym c.is_readable.ensures ∙ c.if-not-is_readable.false
 
 pub returns-then-not-is_readable : goal.returns-then-not-is_readable
 returns-then-not-is_readable c =
@@ -20,7 +21,7 @@ returns-then-not-is_readable c =
     let tidied = test.before in
     let a = tidied.args in
     other_size tidied.tidied-chip.ensures a.words a.out.now
-    (sym test.is_readable.ensures ∙ not-true test.is_readable.result c.if-not-is_readable.true)
+    (sym test.is_readable.ensures ∙ c.if-not-is_readable.true)
 
 pub store-requires : goal.store-requires
 store-requires c = entered_tidy c.tidied-chip.ensures

@@ -11,15 +11,16 @@ use Rattle.words.specs.Words.{Strung, strung, word_reads}
 use Rattle.strings.proofs.Going.{Turn, no_words, turned}
 use Rattle.strings.proofs.Fetching.{ReadRound, read_stops, read_begun, enough, there, next_read, all_read, no_bytes_lem}
 use Rattle.strings.proofs.reading.fetched_over.Goals as goal
+use Rattle.strings.proofs.reading.fetched_over.Goals.{After-first_fetched-first, After-smaller-k, After-wide-held, In-loop-done, Start}
 
 -- where the loop is entered, what was called before it, and the start
 abbrev Entry : Type 0
-Entry = goal.After-wide-held
+Entry = After-wide-held
 
-abbrev first_of : (c : Entry) → goal.After-first_fetched-first
+abbrev first_of : (c : Entry) → After-first_fetched-first
 first_of c = c.before.before.before.before.before.before.before
 
-abbrev start_of : (c : Entry) → goal.Start
+abbrev start_of : (c : Entry) → Start
 start_of c = (first_of c).before.before.before.before.before
 
 abbrev Now : (c : Entry) → List ℕ → List ℕ → ℕ → ℕ → Type 0
@@ -55,12 +56,12 @@ loop-done-init c x before k = k
 
 -- what a turn finds, and the words that it takes
 abbrev In : Type 0
-In = goal.In-loop-done
+In = In-loop-done
 
 found : (c : In) → Now c.before.before c.loop-done.m c.loop-done.out c.loop-done.done c.loop-done.held
 found c = c.loop-done.invariant _ _ (entered c.before.before)
 
-takes : (c : goal.After-smaller-k) → Turn (start_of c.before.before.before).args.words c.loop-done.done (c.loop-done.held / 2) c.smaller-k.result
+takes : (c : After-smaller-k) → Turn (start_of c.before.before.before).args.words c.loop-done.done (c.loop-done.held / 2) c.smaller-k.result
 takes c = turned 1 c.loop-done.held c.loop-done-test.true (λ h. omega arith) c.smaller-k.ensures
 
 -- twice the words fit the machine's word, as the buffer does

@@ -11,17 +11,18 @@ use Rattle.settling.proofs.Carries.{host_held}
 use Rattle.settling.proofs.ReadBackOfTransfer.{long}
 use Rattle.strings.proofs.Through.{behind_image, behind_held, filled}
 use Rattle.strings.proofs.sending.filled_behind.Goals as goal
+use Rattle.strings.proofs.sending.filled_behind.Goals.{After-smaller-k, After-wide}
 
 -- the count that is read, and the bytes that fill the SCSI FIFO
-counted : (c : goal.After-wide) → c.wide.result ≡ length (state_at c.args.m.now).transfer.host
+counted : (c : After-wide) → c.wide.result ≡ length (state_at c.args.m.now).transfer.host
 counted c =
     let a = c.before.before.before in
     c.wide.ensures ∙ host_held a.args.m.now a.requires.image
 
-fill : (c : goal.After-smaller-k) → c.smaller-k.result ≡ min (length (state_at c.args.m.now).transfer.host - c.args.n) 8
+fill : (c : After-smaller-k) → c.smaller-k.result ≡ min (length (state_at c.args.m.now).transfer.host - c.args.n) 8
 fill c = c.smaller-k.ensures ∙ ap (λ (h : ℕ). min (h - c.args.n) 8) (counted c.before)
 
-fill_held : (c : goal.After-smaller-k) → c.args.n + c.smaller-k.result ≤ length (state_at c.args.m.now).transfer.host
+fill_held : (c : After-smaller-k) → c.args.n + c.smaller-k.result ≤ length (state_at c.args.m.now).transfer.host
 fill_held c = omega (arith, fill c, c.requires.n_in_bounds)
 
 pub overflow_sub-wide : goal.overflow_sub-wide

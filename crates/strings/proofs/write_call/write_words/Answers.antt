@@ -9,10 +9,11 @@ use Rattle.strings.proofs.Fits.{writable_length, writable_room}
 use Rattle.strings.proofs.ByValue.{entered_tidy}
 use Rattle.strings.proofs.WriteCall.{other_sizes, image_written_lem, all_written}
 use Rattle.strings.proofs.write_call.write_words.Goals as goal
+use Rattle.strings.proofs.write_call.write_words.Goals.{Else-not-is_writable}
 
 -- the buffers fit
-fits : (c : goal.Else-not-is_writable) → let a = c.args in writable (length a.bytes.now) a.words (length a.out.now) ≡ true
-fits c = sym c.is_writable.ensures ∙ not-false c.is_writable.result c.if-not-is_writable.false
+fits : (c : Else-not-is_writable) → let a = c.args in writable (length a.bytes.now) a.words (length a.out.now) ≡ true
+fits c = sym c.is_writable.ensures ∙ c.if-not-is_writable.false
 
 pub returns-then-not-is_writable : goal.returns-then-not-is_writable
 returns-then-not-is_writable c =
@@ -20,7 +21,7 @@ returns-then-not-is_writable c =
     let tidied = test.before in
     let a = tidied.args in
     other_sizes tidied.tidied-chip.ensures a.bytes.now a.words a.out.now
-    (sym test.is_writable.ensures ∙ not-true test.is_writable.result c.if-not-is_writable.true)
+    (sym test.is_writable.ensures ∙ c.if-not-is_writable.true)
 
 pub store-requires : goal.store-requires
 store-requires c = entered_tidy c.tidied-chip.ensures

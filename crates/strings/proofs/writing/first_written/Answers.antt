@@ -6,12 +6,13 @@ use Rattle.words.proofs.Keeps.{by_elements}
 use Rattle.strings.proofs.First.{word_refused}
 use Rattle.strings.proofs.WordsWritten.{word_written_lem, few_sent, first_stored}
 use Rattle.strings.proofs.writing.first_written.Goals as goal
+use Rattle.strings.proofs.writing.first_written.Goals.{After-outcome_of-o, Start}
 
 -- where the step has been done, and the start
-abbrev start_of : (c : goal.After-outcome_of-o) → goal.Start
+abbrev start_of : (c : After-outcome_of-o) → Start
 start_of c = c.before.before.before.before.before.before.before
 
-known : (c : goal.After-outcome_of-o) → Bytes (start_of c).args.bytes.now
+known : (c : After-outcome_of-o) → Bytes (start_of c).args.bytes.now
 known c = by_elements (start_of c).args.bytes.now (λ k. omega (arith, c.shared_slice_known-3-1.given k))
 
 pub returns-then-code_number-ne0 : goal.returns-then-code_number-ne0

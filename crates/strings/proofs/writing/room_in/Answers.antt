@@ -5,8 +5,9 @@ use borrow.Author.Rules.{rules}
 use Rattle.image.specs.Image.{state_at}
 use Rattle.settling.proofs.Carries.{host_held}
 use Rattle.strings.proofs.writing.room_in.Goals as goal
+use Rattle.strings.proofs.writing.room_in.Goals.{After-wide}
 
-counted : (c : goal.After-wide) → c.wide.result ≡ length (state_at c.args.m.now).transfer.host
+counted : (c : After-wide) → c.wide.result ≡ length (state_at c.args.m.now).transfer.host
 counted c = c.wide.ensures ∙ host_held c.args.m.now c.requires
 
 pub overflow_sub-result : goal.overflow_sub-result

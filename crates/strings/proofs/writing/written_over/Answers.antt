@@ -12,15 +12,16 @@ use Rattle.strings.proofs.Leaves.{image_strung}
 use Rattle.strings.proofs.Going.{Turn, no_words, turned}
 use Rattle.strings.proofs.WordsWritten.{WriteRound, write_stops, write_begun, block_room, block_few, block_stores, image_after, next_written, all_written}
 use Rattle.strings.proofs.writing.written_over.Goals as goal
+use Rattle.strings.proofs.writing.written_over.Goals.{After-ended-code, After-first_written-first, After-room_in-room, After-smaller-k, In-loop-done, Start}
 
 -- where the loop is entered, what was called before it, and the start
 abbrev Entry : Type 0
-Entry = goal.After-room_in-room
+Entry = After-room_in-room
 
-abbrev first_of : (c : Entry) → goal.After-first_written-first
+abbrev first_of : (c : Entry) → After-first_written-first
 first_of c = c.before.before.before.before.before
 
-abbrev start_of : (c : Entry) → goal.Start
+abbrev start_of : (c : Entry) → Start
 start_of c = (first_of c).before.before.before.before.before.before
 
 abbrev Now : (c : Entry) → List ℕ → List ℕ → ℕ → ℕ → ℕ → Type 0
@@ -63,12 +64,12 @@ loop-done-init c x before k = k
 
 -- what a turn finds, and the words that it takes
 abbrev In : Type 0
-In = goal.In-loop-done
+In = In-loop-done
 
 found : (c : In) → Now c.before.before c.loop-done.m c.loop-done.out c.loop-done.done c.loop-done.count c.loop-done.room
 found c = c.loop-done.invariant _ _ (entered c.before.before)
 
-takes : (c : goal.After-smaller-k) → Turn (start_of c.before.before.before).args.words c.loop-done.done c.loop-done.room c.smaller-k.result
+takes : (c : After-smaller-k) → Turn (start_of c.before.before.before).args.words c.loop-done.done c.loop-done.room c.smaller-k.result
 takes c = turned 0 c.loop-done.room c.loop-done-test.true (λ h. h) c.smaller-k.ensures
 
 -- twice the words fit the machine's word, as their bytes do, and so does the buffer
@@ -113,7 +114,7 @@ loop-done-preserved c x before k =
     next_written (smaller.loop-done.invariant x before k) (takes smaller) block.block_written-sent.ensures stored.sent_stored.ensures c.room_in-room-in-loop-done.ensures
 
 -- after the last turn
-at_end : (c : goal.After-ended-code)
+at_end : (c : After-ended-code)
     → Now c.before.before.before c.loop-done.m c.loop-done.out c.loop-done.done c.loop-done.count c.loop-done.room
 at_end c = c.loop-done.invariant _ _ (entered c.before.before.before)
 

@@ -6,17 +6,18 @@ use borrow.Author.Tests.{not-true, not-false}
 use Rattle.saved.proofs.Acceptance.{acceptable_length}
 use Rattle.wordhost.proofs.OverWords.{read_refused, read_image, read_done}
 use Rattle.wordhost.proofs.words_over.image_read.Goals as goal
+use Rattle.wordhost.proofs.words_over.image_read.Goals.{Else-not-is_taken}
 
 -- the image is accepted
-accepts : (c : goal.Else-not-is_taken) → c.is_taken.result ≡ true
-accepts c = not-false c.is_taken.result c.if-not-is_taken.false
+accepts : (c : Else-not-is_taken) → c.is_taken.result ≡ true
+accepts c = c.if-not-is_taken.false
 
 pub returns-then-not-is_taken : goal.returns-then-not-is_taken
 returns-then-not-is_taken c =
     let taken = c.before.before in
     let a = taken.args in
     read_refused a.image.now a.words a.out.now
-    (sym taken.is_taken.ensures.tested ∙ not-true taken.is_taken.result c.if-not-is_taken.true) c.not_done.ensures
+    (sym taken.is_taken.ensures.tested ∙ c.if-not-is_taken.true) c.not_done.ensures
 
 pub words_read-r-requires : goal.words_read-r-requires
 words_read-r-requires c =

@@ -6,17 +6,18 @@ use borrow.Author.Tests.{not-true, not-false}
 use Rattle.saved.proofs.Acceptance.{acceptable_length}
 use Rattle.wordhost.proofs.OverWords.{write_refused, written_image, write_done}
 use Rattle.wordhost.proofs.words_over.image_written.Goals as goal
+use Rattle.wordhost.proofs.words_over.image_written.Goals.{Else-not-is_taken}
 
 -- the image is accepted
-accepts : (c : goal.Else-not-is_taken) → c.is_taken.result ≡ true
-accepts c = not-false c.is_taken.result c.if-not-is_taken.false
+accepts : (c : Else-not-is_taken) → c.is_taken.result ≡ true
+accepts c = c.if-not-is_taken.false
 
 pub returns-then-not-is_taken : goal.returns-then-not-is_taken
 returns-then-not-is_taken c =
     let taken = c.before.before in
     let a = taken.args in
     write_refused a.image.now a.bytes.now a.words a.out.now
-    (sym taken.is_taken.ensures.tested ∙ not-true taken.is_taken.result c.if-not-is_taken.true) c.not_done.ensures
+    (sym taken.is_taken.ensures.tested ∙ c.if-not-is_taken.true) c.not_done.ensures
 
 pub words_written-r-requires : goal.words_written-r-requires
 words_written-r-requires c =

@@ -7,10 +7,11 @@ use Rattle.words.specs.Calls.{readable}
 use Rattle.strings.proofs.Fits.{readable_length}
 use Rattle.wordhost.proofs.OverWords.{not_read, all_read}
 use Rattle.wordhost.proofs.words_over.words_read.Goals as goal
+use Rattle.wordhost.proofs.words_over.words_read.Goals.{Else-not-is_readable}
 
 -- the buffer fits
-fits : (c : goal.Else-not-is_readable) → readable (length c.args.out.now) c.args.words ≡ true
-fits c = sym c.is_readable.ensures ∙ not-false c.is_readable.result c.if-not-is_readable.false
+fits : (c : Else-not-is_readable) → readable (length c.args.out.now) c.args.words ≡ true
+fits c = sym c.is_readable.ensures ∙ c.if-not-is_readable.false
 
 pub returns-then-not-is_readable : goal.returns-then-not-is_readable
 returns-then-not-is_readable c =
@@ -18,7 +19,7 @@ returns-then-not-is_readable c =
     let start = test.before.before in
     let a = start.args in
     not_read start.requires a.words a.out.now
-    (sym test.is_readable.ensures ∙ not-true test.is_readable.result c.if-not-is_readable.true) c.not_done.ensures
+    (sym test.is_readable.ensures ∙ c.if-not-is_readable.true) c.not_done.ensures
 
 pub fetched_over-requires : goal.fetched_over-requires
 fetched_over-requires c =

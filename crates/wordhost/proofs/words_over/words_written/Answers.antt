@@ -7,10 +7,11 @@ use Rattle.words.specs.Calls.{writable}
 use Rattle.strings.proofs.Fits.{writable_length, writable_room}
 use Rattle.wordhost.proofs.OverWords.{not_written_lem, all_written}
 use Rattle.wordhost.proofs.words_over.words_written.Goals as goal
+use Rattle.wordhost.proofs.words_over.words_written.Goals.{Else-not-is_writable}
 
 -- the buffers fit
-fits : (c : goal.Else-not-is_writable) → let a = c.args in writable (length a.bytes.now) a.words (length a.out.now) ≡ true
-fits c = sym c.is_writable.ensures ∙ not-false c.is_writable.result c.if-not-is_writable.false
+fits : (c : Else-not-is_writable) → let a = c.args in writable (length a.bytes.now) a.words (length a.out.now) ≡ true
+fits c = sym c.is_writable.ensures ∙ c.if-not-is_writable.false
 
 pub returns-then-not-is_writable : goal.returns-then-not-is_writable
 returns-then-not-is_writable c =
@@ -18,7 +19,7 @@ returns-then-not-is_writable c =
     let start = test.before.before.before in
     let a = start.args in
     not_written_lem start.requires a.bytes.now a.words a.out.now
-    (sym test.is_writable.ensures ∙ not-true test.is_writable.result c.if-not-is_writable.true) c.not_done.ensures
+    (sym test.is_writable.ensures ∙ c.if-not-is_writable.true) c.not_done.ensures
 
 pub written_over-requires : goal.written_over-requires
 written_over-requires c =

@@ -1,4 +1,5 @@
 use borrow.Author.Rules.{rules}
+use borrow.Author.Tests.{ne_eqb}
 use Rattle.rules.specs.Events.{writes, value_of}
 use Rattle.rules.specs.StepA.{clears_latch, noted_a}
 use Rattle.writes.proofs.selecting.noted.Goals as goal
@@ -9,4 +10,4 @@ returns-then-clears c = rw c.if-clears.true
 
 pub returns : goal.returns
 unfolding noted_a clears_latch writes value_of
-returns c = rw c.if-clears.false
+returns c = rw (ne_eqb _ 1 c.if-clears.false)

@@ -48,7 +48,7 @@ returns-in-SCSIDAT c =
 
 pub returns-in-CLRSINT1 : goal.returns-in-CLRSINT1
 returns-in-CLRSINT1 c =
-    let a = c.before.before.before.before.before in
+    let a = c in
     rw (c.in-CLRSINT1.is, c.atn_cleared.ensures) (put_clrsint1 a.args.value a.args.m.now a.requires.image)
 
 pub returns-in-SIMODE0 : goal.returns-in-SIMODE0
