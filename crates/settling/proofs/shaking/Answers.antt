@@ -45,10 +45,10 @@ pub overflow_add-acks : goal.overflow_add-acks
 overflow_add-acks c =
     let l = c.before.before.before.before in
     let a = l.args in
-    omega (arith, (room a.c a.m.now l.loop-c.m (l.loop-c.moves - a.made) l.loop-c.acks l.loop-c.sent l.loop-c.invariant.1 (could c)).0)
+    omega (arith, (room a.c a.m.now l.loop-c.m (l.loop-c.moves - a.made) l.loop-c.acks l.loop-c.sent l.loop-c.invariant.1 (could (goal.at.overflow_add-acks c).After-shaken-sent)).0)
 
 pub moved-more-requires : goal.moved-more-requires
-moved-more-requires c = (after_shake c.before).0.image
+moved-more-requires c = (after_shake (goal.at.moved-more-requires c).After-shaken-sent).0.image
 
 -- after the moves of a turn
 after_turn : (c : After-moved-more) → Going c.args.c c.args.m.now c.moved-more.new.m (c.loop-c.moves - c.args.made + c.moved-more.result) (c.loop-c.acks + 1) c.shaken-sent.result × (measure c.args.c (state_at c.moved-more.new.m).transfer ≤ measure c.args.c (state_at c.shaken-sent.new.m).transfer)
@@ -63,10 +63,10 @@ overflow_add-moves c =
     let k = c.before.before in
     let l = k.before.before.before.before in
     let a = l.before.before in
-    omega (arith, a.requires.made_bound, moves_fit a.args.c a.args.m.now c.moved-more.new.m (l.loop-c.moves - a.args.made + c.moved-more.result) (l.loop-c.acks + 1) k.shaken-sent.result (after_turn c).0)
+    omega (arith, a.requires.made_bound, moves_fit a.args.c a.args.m.now c.moved-more.new.m (l.loop-c.moves - a.args.made + c.moved-more.result) (l.loop-c.acks + 1) k.shaken-sent.result (after_turn (goal.at.overflow_add-moves c).After-moved-more).0)
 
 pub loop-c-smaller : goal.loop-c-smaller
-loop-c-smaller c = omega (arith, (after_shake c.before.before).1, (after_turn c).1)
+loop-c-smaller c = omega (arith, (after_shake (goal.at.loop-c-smaller c).After-shaken-sent).1, (after_turn (goal.at.loop-c-smaller c).After-moved-more).1)
 
 pub loop-c-preserved : goal.loop-c-preserved
 loop-c-preserved c =
@@ -75,7 +75,7 @@ loop-c-preserved c =
     let a = l.args in
     let h : a.made ≤ l.loop-c.moves = l.loop-c.invariant.0 in
     let e : l.loop-c.moves - a.made + c.moved-more.result ≡ l.loop-c.moves + c.moved-more.result - a.made = omega arith in
-    (omega arith, subst (λ (n : ℕ). Going a.c a.m.now c.moved-more.new.m n (l.loop-c.acks + 1) k.shaken-sent.result) e (after_turn c).0)
+    (omega arith, subst (λ (n : ℕ). Going a.c a.m.now c.moved-more.new.m n (l.loop-c.acks + 1) k.shaken-sent.result) e (after_turn (goal.at.loop-c-preserved c).After-moved-more).0)
 
 pub returns : goal.returns
 returns c =

@@ -26,5 +26,5 @@ returns c =
       high,
       and_mask a.value 8,
       c.offset_byte-seventh.ensures,
-      elements_all 8 a.sent (eight start),
+      elements_all 8 a.sent (eight (goal.at.returns c).Start),
     )

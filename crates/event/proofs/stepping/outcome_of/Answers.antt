@@ -51,13 +51,13 @@ pub loop-first-init : goal.loop-first-init
 loop-first-init c y w = turns.begin _ _ w c.at_most_one-one.ensures refl (omega arith)
 
 pub finished-p-requires : goal.finished-p-requires
-finished-p-requires c = (c.loop-first.invariant _ (begun c.before.before.before.before.before)).ready
+finished-p-requires c = (c.loop-first.invariant _ (begun (goal.at.finished-p-requires c).Else-a)).ready
 
 pub returns-then-first-left : goal.returns-then-first-left
 returns-then-first-left c =
     let fin = c.before in
     let loop = fin.loop-first in
-    let w = loop.invariant _ (begun fin.before.before.before.before.before.before) in
+    let w = loop.invariant _ (begun (goal.at.returns-then-first-left c).Else-a) in
     let first = loop.first in
     let left = loop.false in
     turns.turn_only w (fin.finished-p.ensures w.ready) (left_true first (eqb left 0) c.if-first-left.true) (eqb-true left 0 (right_true first (eqb left 0) c.if-first-left.true))
@@ -66,13 +66,13 @@ pub added-o-requires : goal.added-o-requires
 added-o-requires c =
     let fin = c.before in
     let e = fin.before.before.before.before.before.before in
-    let w = fin.loop-first.invariant _ (begun e) in
-    turns.turn_sums w (fin.finished-p.ensures w.ready) (reported e)
+    let w = fin.loop-first.invariant _ (begun (goal.at.added-o-requires c).Else-a) in
+    turns.turn_sums w (fin.finished-p.ensures w.ready) (reported (goal.at.added-o-requires c).Else-a)
 
 pub onward-n-requires : goal.onward-n-requires
 onward-n-requires c =
     let fin = c.before.before.before.before.before in
-    let w = fin.loop-first.invariant _ (begun fin.before.before.before.before.before.before) in
+    let w = fin.loop-first.invariant _ (begun (goal.at.onward-n-requires c).Else-a) in
     let l = fin.finished-p.ensures w.ready in
     record { image = turns.turn_image w l; at_rest = turns.turn_rests w l; leads = turns.turn_leads w l c.told.ensures }
 
@@ -80,7 +80,7 @@ pub returns-then-not-n : goal.returns-then-not-n
 returns-then-not-n c =
     let ahead = c.before.before in
     let fin = c.before.before.before.before.before.before.before.before in
-    let w = fin.loop-first.invariant _ (begun fin.before.before.before.before.before.before) in
+    let w = fin.loop-first.invariant _ (begun (goal.at.returns-then-not-n c).Else-a) in
     let l = fin.finished-p.ensures w.ready in
     let g = ahead.onward-n.ensures in
     turns.turn_last w l c.added-o.ensures (turns.some_left _ _ c.if-first-left.false) g.image (g.none c.if-not-n.true)

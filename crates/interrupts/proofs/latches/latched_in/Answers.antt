@@ -1,4 +1,5 @@
-use mathlib.Core.Path.{◌∙◌}
+use mathlib.Core.Path.{ap, sym, ◌∙◌}
+use mathlib.Core.Bool.{not}
 use lib.ListN.{get_or}
 use borrow.Author.Rules.{rules}
 use Rattle.rules.specs.Registers.{simode0_of, simode1_of}
@@ -21,7 +22,7 @@ returns-then-not-any_enable c =
     let start = c.before.before.before.before.before.before in
     let a = start.args in
     let m = a.m.now in
-    latches_left m start.requires _ (latches_at m ∙ latches_masked (simode0_of a.before0) (simode0_of (get_or m simode0_place 0)) (simode1_of a.before1) (simode1_of (get_or m simode1_place 0)) (status_of a.status) (status_of a.raised) (latches_of (get_or m latches_place 0)) (rw c.any_enable.ensures at c.if-not-any_enable.true) ∙ latches_from_at m a.before0 a.before1 a.status a.raised)
+    latches_left m start.requires _ (latches_at m ∙ latches_masked (simode0_of a.before0) (simode0_of (get_or m simode0_place 0)) (simode1_of a.before1) (simode1_of (get_or m simode1_place 0)) (status_of a.status) (status_of a.raised) (latches_of (get_or m latches_place 0)) (ap not (sym c.any_enable.ensures ∙ c.if-not-any_enable.true)) ∙ latches_from_at m a.before0 a.before1 a.status a.raised)
 
 pub returns : goal.returns
 returns c =

@@ -1,4 +1,5 @@
 use mathlib.Core.Path.{ap, sym, ◌∙◌}
+use mathlib.Core.Bool.{not}
 use borrow.Author.Rules.{rules}
 use Rattle.image.specs.Image.{state_at}
 use Rattle.image.proofs.AtPlaces.{status_at}
@@ -10,7 +11,7 @@ pub returns-then-not-reqinit : goal.returns-then-not-reqinit
 returns-then-not-reqinit c =
     let start = c.before.before in
     let m = start.args.m.now in
-    status_left m start.requires _ (no_request _ _ c.reqinit.ensures c.if-not-reqinit.true)
+    status_left m start.requires _ (no_request _ _ c.reqinit.ensures (ap not c.if-not-reqinit.true))
 
 pub returns-then-acks-seen : goal.returns-then-acks-seen
 returns-then-acks-seen c =

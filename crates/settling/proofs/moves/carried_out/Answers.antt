@@ -15,20 +15,20 @@ fifo_counts c =
     c.wide-held.ensures ∙ scsi_held a.args.m.now a.requires.image
 
 pub overflow_add-held : goal.overflow_add-held
-overflow_add-held c = omega (arith, fifo_counts c.before, c.requires.k_len_bound)
+overflow_add-held c = omega (arith, fifo_counts (goal.at.overflow_add-held c).After-wide-held, c.requires.k_len_bound)
 
 pub copied-requires : goal.copied-requires
 copied-requires c =
     let a = c.before.before.before.before in
     let f = a.requires.image.range.transfer in
-    let q = fifo_counts c.before in
+    let q = fifo_counts (goal.at.copied-requires c).After-wide-held in
     record { m_len = long a.args.m.now a.requires.image; n_bound = omega (arith, f.host, a.requires.k_in_bounds); n_bound_2 = omega (arith, a.requires.k_len_bound); n_bound_3 = λ l. absurd (omega arith) }
 
 pub overflow_add-m : goal.overflow_add-m
-overflow_add-m c = omega (arith, fifo_counts c.before.before, c.requires.k_len_bound)
+overflow_add-m c = omega (arith, fifo_counts (goal.at.overflow_add-m c).After-wide-held, c.requires.k_len_bound)
 
 pub overflow_cast-m : goal.overflow_cast-m
-overflow_cast-m c = omega (arith, fifo_counts c.before.before, c.requires.k_len_bound)
+overflow_cast-m c = omega (arith, fifo_counts (goal.at.overflow_cast-m c).After-wide-held, c.requires.k_len_bound)
 
 pub host_popped-requires : goal.host_popped-requires
 host_popped-requires c =

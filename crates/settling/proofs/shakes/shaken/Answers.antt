@@ -22,12 +22,12 @@ after c =
     kept a.args.m.now c.byte_passed-more.new.m (byte_passed a.args.c t) a.requires.image (passed_fits a.args.c t a.requires.m_value a.requires.image.range.transfer) (passed_bytes a.args.c t (byte a) a.requires.image.bytes.transfer) c.byte_passed-more.ensures.1
 
 pub ack_given-requires : goal.ack_given-requires
-ack_given-requires c = (after c.before).0
+ack_given-requires c = (after (goal.at.ack_given-requires c).After-byte_passed-more).0
 
 pub returns : goal.returns
 returns c =
     let p = c.before.before in
     let a = p.before.before in (
       p.byte_passed-more.ensures.0,
-      c.ack_given.ensures ∙ ap (λ (x : State). image_of (with_transfer (acknowledged a.args.c.synchronous x.transfer) x)) (after p).1,
+      c.ack_given.ensures ∙ ap (λ (x : State). image_of (with_transfer (acknowledged a.args.c.synchronous x.transfer) x)) (after (goal.at.returns c).After-byte_passed-more).1,
     )

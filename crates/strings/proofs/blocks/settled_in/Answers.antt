@@ -26,7 +26,7 @@ few : (c : After-smaller-n) → c.smaller-n.result ≤ 8
 few c = omega (arith, counted c, c.requires.range.transfer.offset)
 
 pub goes_out-requires : goal.goes_out-requires
-goes_out-requires c = record { image = c.before.before.before.before.before.before.requires; n_bound = few c.before }
+goes_out-requires c = record { image = c.before.before.before.before.before.before.requires; n_bound = few (goal.at.goes_out-requires c).After-smaller-n }
 
 -- they go out at once
 out : (c : tie.After-oldest-of-arg) → GoesOut c.before.before.before.before.before.before.before.before.before.args.m.now c.before.before.before.before.smaller.result
@@ -49,7 +49,7 @@ out c =
 pub oldest_of-sent-requires : goal.oldest_of-sent-requires
 oldest_of-sent-requires c =
     let g = out c in
-    record { image = g.image; n_bound = few c.before.before.before; n_in_bounds = omega (arith, g.count) }
+    record { image = g.image; n_bound = few (goal.at.oldest_of-sent-requires c).After-smaller-n; n_in_bounds = omega (arith, g.count) }
 
 pub acknowledged_by-requires : goal.acknowledged_by-requires
 acknowledged_by-requires c =
@@ -64,7 +64,7 @@ filled_behind-requires c =
     record { image = acks_image g e; m_value = acks_scsi g e; n_in_bounds = acks_host g e }
 
 pub overflow_cast-n : goal.overflow_cast-n
-overflow_cast-n c = omega (arith, few c.before.before.before.before.before.before.before.before)
+overflow_cast-n c = omega (arith, few (goal.at.overflow_cast-n c).After-smaller-n)
 
 pub fallen_in-requires : goal.fallen_in-requires
 fallen_in-requires c =

@@ -31,7 +31,7 @@ fetched_over-r-requires c =
     let store = c.before.before in
     let test = store.before.before in
     let a = test.args in
-    record { image = store.store.ensures.sound; out_len = readable_length (length a.out.now) a.words (fits test) }
+    record { image = store.store.ensures.sound; out_len = readable_length (length a.out.now) a.words (fits (goal.at.fetched_over-r-requires c).Else-not-is_readable) }
 
 pub load-last-requires : goal.load-last-requires
 load-last-requires c =
@@ -48,4 +48,4 @@ returns c =
     let test = store.before.before in
     let tidied = test.before.before in
     let a = tidied.args in
-    all_read tidied.tidied-chip.ensures a.words a.out.now store.store.ensures fetched.fetched_over-r.ensures (fits test) c.load-last.ensures
+    all_read tidied.tidied-chip.ensures a.words a.out.now store.store.ensures fetched.fetched_over-r.ensures (fits (goal.at.returns c).Else-not-is_readable) c.load-last.ensures

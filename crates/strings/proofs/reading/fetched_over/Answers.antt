@@ -71,15 +71,15 @@ twice_fit c = omega (arith, (start_of c.before.before).requires.out_len)
 pub block_fetched-requires : goal.block_fetched-requires
 block_fetched-requires c =
     let smaller = c.before.before in
-    let f = found smaller.before in
-    let t = takes smaller in
+    let f = found (goal.at.block_fetched-requires c).In-loop-done in
+    let t = takes (goal.at.block_fetched-requires c).After-smaller-k in
     record { image = f.round.image; n_in_bounds = enough f t; n_in_bounds_2 = there f t }
 
 pub loop-done-preserved : goal.loop-done-preserved
 loop-done-preserved c x before k =
     let block = c.before.before.before.before.before in
     let smaller = block.before.before.before in
-    next_read (smaller.loop-done.invariant x before k) (takes smaller) block.block_fetched.ensures c.wide-held-in-loop-done.ensures
+    next_read (smaller.loop-done.invariant x before k) (takes (goal.at.loop-done-preserved c).After-smaller-k) block.block_fetched.ensures c.wide-held-in-loop-done.ensures
 
 -- after the last turn
 at_end : (c : goal.Joined-done-words)
@@ -92,22 +92,22 @@ returns c =
     c.if-done-words.branch
 
 pub overflow_sub-words : goal.overflow_sub-words
-overflow_sub-words c = (found c).few
+overflow_sub-words c = (found (goal.at.overflow_sub-words c).In-loop-done).few
 
 pub overflow_mul-k : goal.overflow_mul-k
-overflow_mul-k c = omega (arith, (takes c.before).few, twice_fit c.before.before)
+overflow_mul-k c = omega (arith, (takes (goal.at.overflow_mul-k c).After-smaller-k).few, twice_fit (goal.at.overflow_mul-k c).In-loop-done)
 
 pub overflow_mul-done : goal.overflow_mul-done
-overflow_mul-done c = omega (arith, (takes c.before.before).few, twice_fit c.before.before.before)
+overflow_mul-done c = omega (arith, (takes (goal.at.overflow_mul-done c).After-smaller-k).few, twice_fit (goal.at.overflow_mul-done c).In-loop-done)
 
 pub overflow_add-done : goal.overflow_add-done
-overflow_add-done c = omega (arith, (takes c.before.before.before.before.before).few, twice_fit c.before.before.before.before.before.before)
+overflow_add-done c = omega (arith, (takes (goal.at.overflow_add-done c).After-smaller-k).few, twice_fit (goal.at.overflow_add-done c).In-loop-done)
 
 pub loop-done-smaller : goal.loop-done-smaller
-loop-done-smaller c = omega (arith, (takes c.before.before.before.before.before.before.before.before).some, (takes c.before.before.before.before.before.before.before.before).few)
+loop-done-smaller c = omega (arith, (takes (goal.at.loop-done-smaller c).After-smaller-k).some, (takes (goal.at.loop-done-smaller c).After-smaller-k).few)
 
 pub overflow_mul-result : goal.overflow_mul-result
-overflow_mul-result c = omega (arith, (at_end c).few, (start_of c.before.before.before).requires.out_len)
+overflow_mul-result c = omega (arith, (at_end c).few, (start_of (goal.at.overflow_mul-result c).After-wide-held).requires.out_len)
 
 pub shape_of-out : goal.shape_of-out
 shape_of-out c = (at_end c).round.goes.long

@@ -33,7 +33,7 @@ written_over-r-requires c =
     let a = test.args in
     let bytes = length a.bytes.now in
     let room = length a.out.now in
-    record { image = store.store.ensures.sound; bytes_len = writable_length bytes a.words room (fits test); words_in_bounds = writable_room bytes a.words room (fits test) }
+    record { image = store.store.ensures.sound; bytes_len = writable_length bytes a.words room (fits (goal.at.written_over-r-requires c).Else-not-is_writable); words_in_bounds = writable_room bytes a.words room (fits (goal.at.written_over-r-requires c).Else-not-is_writable) }
 
 pub load-last-requires : goal.load-last-requires
 load-last-requires c =
@@ -50,5 +50,5 @@ returns c =
     let test = store.before.before in
     let tidied = test.before.before in
     let a = tidied.args in
-    all_written tidied.tidied-chip.ensures a.bytes.now a.words a.out.now store.store.ensures written.written_over-r.ensures (fits test)
+    all_written tidied.tidied-chip.ensures a.bytes.now a.words a.out.now store.store.ensures written.written_over-r.ensures (fits (goal.at.returns c).Else-not-is_writable)
     c.load-last.ensures

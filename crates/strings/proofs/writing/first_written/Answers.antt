@@ -18,16 +18,16 @@ known c = by_elements (start_of c).args.bytes.now (λ k. omega (arith, c.shared_
 pub returns-then-code_number-ne0 : goal.returns-then-code_number-ne0
 returns-then-code_number-ne0 c =
     let stepped = c.before.before in
-    let start = start_of stepped in
+    let start = start_of (goal.at.returns-then-code_number-ne0 c).After-outcome_of-o in
     record {
-      known = known stepped;
-      passed = word_refused (word_written_lem _ start.requires.image.range start.args.bytes.now (known stepped)) stepped.outcome_of-o.ensures (λ e. c.if-code_number-ne0.true (c.code_number.ensures ∙ e)) start.args.out.now;
+      known = known (goal.at.returns-then-code_number-ne0 c).After-outcome_of-o;
+      passed = word_refused (word_written_lem _ start.requires.image.range start.args.bytes.now (known (goal.at.returns-then-code_number-ne0 c).After-outcome_of-o)) stepped.outcome_of-o.ensures (λ e. c.if-code_number-ne0.true (c.code_number.ensures ∙ e)) start.args.out.now;
     }
 
 pub sent_stored-requires : goal.sent_stored-requires
 sent_stored-requires c =
     let stepped = c.before.before.before.before in
-    let start = start_of stepped in
+    let start = start_of (goal.at.sent_stored-requires c).After-outcome_of-o in
     let few = few_sent start.requires.image.range start.args.bytes.now stepped.outcome_of-o.ensures in
     record { count_bound = few; count_in_bounds = omega (arith, few, start.requires.in_bounds_2) }
 
@@ -35,8 +35,8 @@ pub returns : goal.returns
 returns c =
     let numbered = c.before.before.before.before.before.before in
     let stepped = numbered.before in
-    let start = start_of stepped in
+    let start = start_of (goal.at.returns c).After-outcome_of-o in
     record {
-      known = known stepped;
-      passed = first_stored start.requires.image.range start.args.bytes.now stepped.outcome_of-o.ensures (known stepped) (sym numbered.code_number.ensures ∙ c.if-code_number-ne0.false) c.sent_stored.ensures;
+      known = known (goal.at.returns c).After-outcome_of-o;
+      passed = first_stored start.requires.image.range start.args.bytes.now stepped.outcome_of-o.ensures (known (goal.at.returns c).After-outcome_of-o) (sym numbered.code_number.ensures ∙ c.if-code_number-ne0.false) c.sent_stored.ensures;
     }

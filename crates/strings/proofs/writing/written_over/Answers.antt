@@ -82,36 +82,36 @@ out_fits c = omega arith
 pub block_written-sent-requires : goal.block_written-sent-requires
 block_written-sent-requires c =
     let smaller = c.before in
-    let f = found smaller.before in
-    let t = takes smaller in
+    let f = found (goal.at.block_written-sent-requires c).In-loop-done in
+    let t = takes (goal.at.block_written-sent-requires c).After-smaller-k in
     record { image = f.round.image; bytes = f.known; n_in_bounds = omega (arith, f.size, t.few); n_len_bound = block_room f t }
 
 pub sent_stored-requires : goal.sent_stored-requires
 sent_stored-requires c =
     let block = c.before in
     let smaller = block.before.before in
-    let f = found smaller.before in
-    record { count_bound = block_few f (takes smaller) block.block_written-sent.ensures; count_in_bounds = block_stores f (takes smaller) block.block_written-sent.ensures }
+    let f = found (goal.at.sent_stored-requires c).In-loop-done in
+    record { count_bound = block_few f (takes (goal.at.sent_stored-requires c).After-smaller-k) block.block_written-sent.ensures; count_in_bounds = block_stores f (takes (goal.at.sent_stored-requires c).After-smaller-k) block.block_written-sent.ensures }
 
 pub overflow_add-count : goal.overflow_add-count
 overflow_add-count c =
     let block = c.before.before.before.before in
     let smaller = block.before.before in
-    let f = found smaller.before in
-    omega (arith, out_fits smaller.before, f.round.goes.long, block_stores f (takes smaller) block.block_written-sent.ensures)
+    let f = found (goal.at.overflow_add-count c).In-loop-done in
+    omega (arith, out_fits (goal.at.overflow_add-count c).In-loop-done, f.round.goes.long, block_stores f (takes (goal.at.overflow_add-count c).After-smaller-k) block.block_written-sent.ensures)
 
 pub room_in-room-requires-in-loop-done : goal.room_in-room-requires-in-loop-done
 room_in-room-requires-in-loop-done c =
     let block = c.before.before.before.before.before in
     let smaller = block.before.before in
-    image_after (found smaller.before) (takes smaller) block.block_written.ensures
+    image_after (found (goal.at.room_in-room-requires-in-loop-done c).In-loop-done) (takes (goal.at.room_in-room-requires-in-loop-done c).After-smaller-k) block.block_written.ensures
 
 pub loop-done-preserved : goal.loop-done-preserved
 loop-done-preserved c x before k =
     let stored = c.before.before.before in
     let block = stored.before.before in
     let smaller = block.before.before in
-    next_written (smaller.loop-done.invariant x before k) (takes smaller) block.block_written-sent.ensures stored.sent_stored.ensures c.room_in-room-in-loop-done.ensures
+    next_written (smaller.loop-done.invariant x before k) (takes (goal.at.loop-done-preserved c).After-smaller-k) block.block_written-sent.ensures stored.sent_stored.ensures c.room_in-room-in-loop-done.ensures
 
 -- after the last turn
 at_end : (c : After-ended-code)
@@ -119,22 +119,22 @@ at_end : (c : After-ended-code)
 at_end c = c.loop-done.invariant _ _ (entered c.before.before.before)
 
 pub overflow_sub-words : goal.overflow_sub-words
-overflow_sub-words c = (found c).few
+overflow_sub-words c = (found (goal.at.overflow_sub-words c).In-loop-done).few
 
 pub overflow_mul-done : goal.overflow_mul-done
-overflow_mul-done c = omega (arith, (takes c.before).few, twice_fit c.before.before)
+overflow_mul-done c = omega (arith, (takes (goal.at.overflow_mul-done c).After-smaller-k).few, twice_fit (goal.at.overflow_mul-done c).In-loop-done)
 
 pub overflow_mul-k : goal.overflow_mul-k
-overflow_mul-k c = omega (arith, (takes c.before).few, twice_fit c.before.before)
+overflow_mul-k c = omega (arith, (takes (goal.at.overflow_mul-k c).After-smaller-k).few, twice_fit (goal.at.overflow_mul-k c).In-loop-done)
 
 pub overflow_add-done : goal.overflow_add-done
-overflow_add-done c = omega (arith, (takes c.before.before.before.before.before.before).few, twice_fit c.before.before.before.before.before.before.before)
+overflow_add-done c = omega (arith, (takes (goal.at.overflow_add-done c).After-smaller-k).few, twice_fit (goal.at.overflow_add-done c).In-loop-done)
 
 pub loop-done-smaller : goal.loop-done-smaller
-loop-done-smaller c = omega (arith, (takes c.before.before.before.before.before.before.before).some, (takes c.before.before.before.before.before.before.before).few)
+loop-done-smaller c = omega (arith, (takes (goal.at.loop-done-smaller c).After-smaller-k).some, (takes (goal.at.loop-done-smaller c).After-smaller-k).few)
 
 pub shape_of-out : goal.shape_of-out
-shape_of-out c = (at_end c).round.goes.long
+shape_of-out c = (at_end (goal.at.shape_of-out c).After-ended-code).round.goes.long
 
 pub returns : goal.returns
-returns c = all_written (at_end c) c.ended-code.ensures c.loop-done-test.false
+returns c = all_written (at_end (goal.at.returns c).After-ended-code) c.ended-code.ensures c.loop-done-test.false

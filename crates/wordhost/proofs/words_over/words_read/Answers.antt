@@ -26,7 +26,7 @@ fetched_over-requires c =
     let test = c.before.before in
     let start = test.before.before.before in
     let a = start.args in
-    record { image = start.requires; out_len = readable_length (length a.out.now) a.words (fits test) }
+    record { image = start.requires; out_len = readable_length (length a.out.now) a.words (fits (goal.at.fetched_over-requires c).Else-not-is_readable) }
 
 pub returns : goal.returns
 returns c =
@@ -34,4 +34,4 @@ returns c =
     let test = fetched.before.before.before in
     let start = test.before.before.before in
     let a = start.args in
-    all_read start.requires a.words a.out.now (fits test) fetched.fetched_over.ensures
+    all_read start.requires a.words a.out.now (fits (goal.at.returns c).Else-not-is_readable) fetched.fetched_over.ensures

@@ -28,7 +28,7 @@ written_over-requires c =
     let a = start.args in
     let bytes = length a.bytes.now in
     let room = length a.out.now in
-    record { image = start.requires; bytes_len = writable_length bytes a.words room (fits test); words_in_bounds = writable_room bytes a.words room (fits test) }
+    record { image = start.requires; bytes_len = writable_length bytes a.words room (fits (goal.at.written_over-requires c).Else-not-is_writable); words_in_bounds = writable_room bytes a.words room (fits (goal.at.written_over-requires c).Else-not-is_writable) }
 
 pub returns : goal.returns
 returns c =
@@ -36,4 +36,4 @@ returns c =
     let test = written.before.before.before in
     let start = test.before.before.before.before in
     let a = start.args in
-    all_written start.requires a.bytes.now a.words a.out.now (fits test) written.written_over.ensures
+    all_written start.requires a.bytes.now a.words a.out.now (fits (goal.at.returns c).Else-not-is_writable) written.written_over.ensures

@@ -8,6 +8,7 @@ use Rattle.rules.specs.declared.records.Event.TheVariants.{Write}
 use Rattle.image.specs.Image.{state_at, scsisig_byte}
 use Rattle.writes.proofs.StoringRegisters.{plain, far_from, unstored}
 use Rattle.writes.proofs.RegisterStores.{put_scsiseq, put_sxfrctl0, put_sxfrctl1, put_scsisigo, put_scsirate, put_scsiid, put_scsidat, put_clrsint1, put_simode0, put_simode1, put_dmacntrl0, put_dmacntrl1, put_brstcntrl, unchanged}
+use borrow.Enum.Refused.{opened}
 use Rattle.writes.proofs.storing.stored.Goals as goal
 
 pub returns-in-SCSISEQ : goal.returns-in-SCSISEQ
@@ -82,4 +83,4 @@ returns-in_default c =
     let s = state_at x.m.now in
     unchanged (Write (offset_of x.register) x.value) x.m.now c.requires.image
     (unstored (offset_of x.register) x.value (Present x.register) c.requires.written s.registers
-    (far_from plain x.register c.in_default.in_default-own.keys14))
+    (far_from plain x.register (opened c.in_default.in_default-own.keys14)))
