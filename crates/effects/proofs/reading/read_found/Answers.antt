@@ -21,13 +21,11 @@ returns-in-ID c = rw c.in-ID.is c.identity_read.ensures
 
 pub returns-in_default : goal.returns-in_default
 returns-in_default c =
-    let known = c.before.before in
-    let a = known.before in
-    let r = a.args.register in
-    let s = state_at a.args.m.now in
-    let g = a.requires.image in
-    let found = a.requires.register_value in
-    let k = known.in_default.in_default-own.keys5 in
+    let r = c.args.register in
+    let s = state_at c.args.m.now in
+    let g = c.requires.image in
+    let found = c.requires.register_value in
+    let k = c.in_default.in_default-own.keys5 in
     let o = offset_of r in
     read_acts g o (found_below o r found) (read_done g o r found (not_port r found k))
     (g.packed ∙ ap image_of (plain_left s o (not_latch r found k) (not_port r found k) (not_stack r found k) (not_identity r found k)))
