@@ -5,4 +5,4 @@ use Rattle.effects.proofs.refused.Goals as goal
 
 pub returns : goal.returns
 returns c =
-    c.IsRefused-as.ensures ∙ ap (refused_as c.args.code) c.refused_value.ensures
+    c.refused_as.ensures ∙ ap (refused_as c.args.code) c.refused_value.ensures

@@ -4,7 +4,7 @@ use Rattle.event.proofs.opening.opened.Goals as goal
 
 pub returns-in_default : goal.returns-in_default
 returns-in_default c =
-    rw (sym c.decode-d.ensures ∙ c.in_default.is) (record { image = c.requires.packed; acted = c.IsRefused-as.ensures })
+    rw (sym c.decode-d.ensures ∙ c.in_default.is) (record { image = c.requires.packed; acted = c.refused_as.ensures })
 
 pub opened_event-requires : goal.opened_event-requires
 opened_event-requires c =

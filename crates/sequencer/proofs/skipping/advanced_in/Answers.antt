@@ -33,7 +33,7 @@ quiet_image q n s = refl
 pub ticks_after-ticks-requires : goal.ticks_after-ticks-requires
 ticks_after-ticks-requires c =
     let s = state_at c.args.m.now in
-    record { m_bound = c.requires.0.range.sequencer; k_lt_unreached = omega (arith, c.requires.1.1, (distance_bounded s).1) }
+    record { m_bound = c.requires.image.range.sequencer; k_lt_unreached = omega (arith, c.requires.k_bound, (distance_bounded s).1) }
 
 pub sequencer_put-requires : goal.sequencer_put-requires
 sequencer_put-requires c =

@@ -9,7 +9,7 @@ use Rattle.settling.proofs.ReadBackOfTransfer.{offset_held}
 use Rattle.strings.proofs.Settled.{image_settled, block_done}
 use Rattle.strings.proofs.Through.{GoesOut, acks_image, acks_scsi, acks_host, out_settles, none_sent}
 use Rattle.strings.proofs.blocks.settled_in.Goals as goal
-use Rattle.strings.proofs.blocks.settled_in.Goals.{After-smaller-n}
+use Rattle.strings.proofs.blocks.settled_in.Goals.{After-smaller-n, Then-goes_out}
 
 -- as many bytes as are held and have REQs outstanding
 counted : (c : After-smaller-n) → c.smaller-n.result ≡ min (state_at c.args.m.now).transfer.offset (length (state_at c.args.m.now).transfer.host)
@@ -26,13 +26,13 @@ pub goes_out-requires : goal.goes_out-requires
 goes_out-requires c = record { image = c.requires; n_bound = few (goal.at.goes_out-requires c).After-smaller-n }
 
 -- they go out at once
-out : (c : tie.After-oldest-of-arg) → GoesOut c.args.m.now c.smaller.result
-out c =
-    let bytes = c.goes-out.ensures.0 c.if1.true in
-    let way = c.goes-out.ensures.1 c.if1.true in
+out : (c : Then-goes_out) → c.smaller-n.result ≡ min (state_at c.args.m.now).transfer.offset (length (state_at c.args.m.now).transfer.host) → GoesOut c.args.m.now c.smaller-n.result
+out c count =
+    let bytes = c.goes_out.ensures.n_nonzero c.if-goes_out.true in
+    let way = c.goes_out.ensures.m_value c.if-goes_out.true in
     record {
       image = c.requires;
-      count = counted c;
+      count = count;
       some = bytes.0;
       none = bytes.1;
       low = bytes.2;
@@ -43,17 +43,17 @@ out c =
 
 pub oldest_of-sent-requires : goal.oldest_of-sent-requires
 oldest_of-sent-requires c =
-    let g = out c in
+    let g = out (goal.at.oldest_of-sent-requires c).Then-goes_out (counted (goal.at.oldest_of-sent-requires c).After-smaller-n) in
     record { image = g.image; n_bound = few (goal.at.oldest_of-sent-requires c).After-smaller-n; n_in_bounds = omega (arith, g.count) }
 
 pub acknowledged_by-requires : goal.acknowledged_by-requires
 acknowledged_by-requires c =
-    let g = out c.before in
+    let g = out (goal.at.acknowledged_by-requires c).Then-goes_out (counted (goal.at.acknowledged_by-requires c).After-smaller-n) in
     record { image = g.image; n_nonzero = g.some; n_bound = omega (arith, g.count); n_in_bounds = omega (arith, g.count); n_bound_2 = g.low }
 
 pub filled_behind-requires : goal.filled_behind-requires
 filled_behind-requires c =
-    let g = out c.before.before in
+    let g = out (goal.at.filled_behind-requires c).Then-goes_out (counted (goal.at.filled_behind-requires c).After-smaller-n) in
     let e = c.acknowledged_by.ensures in
     record { image = acks_image g e; m_value = acks_scsi g e; n_in_bounds = acks_host g e }
 
@@ -62,12 +62,12 @@ overflow_cast-n c = omega (arith, few (goal.at.overflow_cast-n c).After-smaller-
 
 pub fallen_in-requires : goal.fallen_in-requires
 fallen_in-requires c =
-    let g = out c in
+    let g = out (goal.at.fallen_in-requires c).Then-goes_out (counted (goal.at.fallen_in-requires c).After-smaller-n) in
     image_settled g.image (out_settles g c.acknowledged_by.ensures c.filled_behind.ensures c.oldest_of-sent.ensures)
 
 pub returns-then-goes_out : goal.returns-then-goes_out
 returns-then-goes_out c =
-    let g = out c in
+    let g = out (goal.at.returns-then-goes_out c).Then-goes_out (counted (goal.at.returns-then-goes_out c).After-smaller-n) in
     block_done g.image (out_settles g c.acknowledged_by.ensures c.filled_behind.ensures c.oldest_of-sent.ensures) c.fallen_in.ensures
 
 pub fallen_in-requires-2 : goal.fallen_in-requires-2
