@@ -22,8 +22,8 @@ returns-then-since-lt72 c =
 
 pub is_same-requires : goal.is_same-requires
 is_same-requires c =
-    let led = c.requires.1.1 (omega (arith, c.if2.false)) in
-    record { a_len = long _ c.requires.0; b_len = long _ led.image }
+    let led = c.requires.leads (omega (arith, c.if-since-gt72.false)) in
+    record { a_len = long _ c.requires.image; b_len = long _ led.image }
 
 pub returns-then-is_same : goal.returns-then-is_same
 returns-then-is_same c =

@@ -51,7 +51,7 @@ returns-then-first-left c =
     let loop = c.loop-first in
     let w = loop.invariant _ (begun (goal.at.returns-then-first-left c).Else-a) in
     let first = loop.first in
-    let left = loop.false in
+    let left = loop.left in
     turns.turn_only w (c.finished-p.ensures w.ready) (left_true first (eqb left 0) c.if-first-left.true) (eqb-true left 0 (right_true first (eqb left 0) c.if-first-left.true))
 
 pub added-o-requires : goal.added-o-requires
@@ -70,7 +70,7 @@ returns-then-not-n c =
     let w = c.loop-first.invariant _ (begun (goal.at.returns-then-not-n c).Else-a) in
     let l = c.finished-p.ensures w.ready in
     let g = c.onward-n.ensures in
-    turns.turn_last w l c.added-o.ensures (turns.some_left _ _ c.if-first-left.false) g.image (g.none c.if-not-n.true)
+    turns.turn_last w l c.added-o.ensures (turns.some_left _ _ c.if-first-left.false) g.image (g.none (not-true c.onward-n.result.more c.if-not-n.true))
 
 pub ticked-requires : goal.ticked-requires
 ticked-requires c = record { image = c.onward-n.ensures.image; n_bound = omega arith }
@@ -78,7 +78,7 @@ ticked-requires c = record { image = c.onward-n.ensures.image; n_bound = omega a
 pub loop-first-smaller : goal.loop-first-smaller
 loop-first-smaller c =
     let g = c.onward-n.ensures in
-    omega (arith, g.less c.if-not-n.false)
+    omega (arith, g.less (not-false c.onward-n.result.more c.if-not-n.false))
 
 pub loop-first-preserved : goal.loop-first-preserved
 unfolding state_at
@@ -87,4 +87,4 @@ loop-first-preserved c y b =
     let l = c.finished-p.ensures w.ready in
     let g = c.onward-n.ensures in
     let m = c.onward-n.new.m in
-    turns.turn_next w l c.added-o.ensures c.ticked.result c.if-not-n.false g (ap rst_of c.seen_in-seen-in-loop-first.ensures ∙ rst_of_lem m) (ap req_of c.seen_in-seen-in-loop-first.ensures ∙ req_of_lem m) (ap mismatched_of c.seen_in-seen-in-loop-first.ensures ∙ mismatched_of_lem m) refl refl c.ticked.ensures
+    turns.turn_next w l c.added-o.ensures c.ticked.result (not-false c.onward-n.result.more c.if-not-n.false) g (ap rst_of c.seen_in-seen-in-loop-first.ensures ∙ rst_of_lem m) (ap req_of c.seen_in-seen-in-loop-first.ensures ∙ req_of_lem m) (ap mismatched_of c.seen_in-seen-in-loop-first.ensures ∙ mismatched_of_lem m) refl refl c.ticked.ensures

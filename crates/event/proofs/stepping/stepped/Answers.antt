@@ -4,7 +4,7 @@ use Rattle.event.proofs.stepping.stepped.Goals as goal
 
 pub answer_of-answer-requires : goal.answer_of-answer-requires
 answer_of-answer-requires c =
-    image_left c.requires c.args.bytes.now c.outcome-of.ensures
+    image_left c.requires c.args.bytes.now c.outcome_of-o.ensures
 
 pub returns : goal.returns
 returns c =
