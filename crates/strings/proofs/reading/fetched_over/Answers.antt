@@ -65,8 +65,8 @@ pub returns : goal.returns
 returns c =
     let end = at_end (goal.at.returns c).After-loop-done in
     elim c.if-done-words.branch [
-      then-done-words w ↦ all_read end w.if-done-words.true w.code-is
-    | else-done-words w ↦ no_bytes_lem end c.loop-done-test.false w.if-done-words.false w.code-is
+      | then-done-words w ↦ all_read end w.if-done-words.true w.code-is
+      | else-done-words w ↦ no_bytes_lem end c.loop-done-test.false w.if-done-words.false w.code-is
     ]
 
 pub overflow_sub-words : goal.overflow_sub-words
