@@ -20,7 +20,7 @@ loop-i-preserved c =
     let t = c.loop-i-test.true in
     let l = c.loop-i in
     let a = c.args in
-    let same = c.store_at.auto.1.0 in
+    let same = c.store_at.auto.out in
     (omega (arith, l.invariant.0, t), l.invariant.1, omega (arith, l.invariant.2, same), omega (arith, l.invariant.3, same), l.invariant.4, refusals_more l.i a.answers.now l.invariant.5 c.refused_answer-b.ensures c.store_at.ensures)
 
 pub returns : goal.returns
