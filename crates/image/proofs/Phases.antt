@@ -11,7 +11,7 @@ use borrow.Author.Tests.{eq-eqb, ne_eqb}
 use Rattle.rules.specs.Numbers.{bit, field}
 use Rattle.rules.specs.Seen.{connected, matched, mismatched}
 use Rattle.rules.proofs.Logic.{never, left_true, right_true}
-use Rattle.image.specs.Image.{registers_at, lines_at, state_at}
+use Rattle.image.specs.Image.{state_at}
 use Rattle.image.specs.Layout.{control_place, scsisig_place}
 
 -- two digits with the same test are the same

@@ -1,6 +1,6 @@
 -- The chip's state in the bytes of one array, and read back from them.
-use Rattle.std.specs.Prelude.{ℕ, ◌+◌, ◌*◌, ◌%◌, Bool, false, ◌≡◌, List, [], ◌∷◌, ◌++◌, eqb, length, take, drop, get_or}
-use Rattle.rules.specs.Numbers.{bit, field, one, byte_of, padded}
+use Rattle.std.specs.Prelude.{ℕ, ◌+◌, ◌*◌, ◌%◌, false, ◌≡◌, List, [], ◌∷◌, ◌++◌, eqb, length, take, drop, get_or}
+use Rattle.rules.specs.Numbers.{bit, one, byte_of, padded}
 use Rattle.rules.specs.Counter.{counter_byte}
 use Rattle.rules.specs.Registers.{scsiseq_of, scsiseq_byte, sxfrctl0_of, sxfrctl0_byte, sxfrctl1_of, sxfrctl1_byte, scsisig_of, scsirate_of, scsiid_of, simode0_of, simode0_byte, simode1_of, simode1_byte, dmacntrl0_of, dmacntrl0_byte, dmacntrl1_of, dmacntrl1_byte}
 use Rattle.rules.specs.State.{State, Transfer}

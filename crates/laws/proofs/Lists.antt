@@ -5,7 +5,7 @@ use mathlib.Core.List.{List, [], ◌∷◌, ◌++◌, append_assoc, append-nil}
 use native.Mathlib.Omega.{arith}
 use native.Mathlib.Numerals.{add-one}
 use native.Mathlib.Decide.{dec_le}
-use lib.ListN.{length, take, drop, set, get_or, replicate, length-append, length-take, length-drop, length-replicate, replicate-append-replicate, drop_of_length-le, get_or-eq_default}
+use lib.ListN.{length, take, drop, set, get_or, replicate, length-append, length-take, length-drop, length-replicate, replicate-append-replicate, drop_of_length-le}
 use lib.Seq.{set-append_seam, take-append_seam, take-suc, length-take-le, get_or-drop, take_all, take-add, drop_at, drop-append-le}
 use Rattle.rules.specs.Numbers.{padded}
 

@@ -1,7 +1,7 @@
 -- Writes to 34Fh, 350h and 351h: A, then D's part. FWERR is raised again where its cause holds; a latch sets where its enable rises
 -- while the status is 1.
 use mathlib.Core.Path.{◌≡◌, refl, sym, ◌∙◌, ap}
-use mathlib.Core.Bool.{Bool, not, ◌||◌}
+use mathlib.Core.Bool.{Bool, ◌||◌}
 use Prim.Native.Nat.{ℕ}
 use Rattle.rules.specs.Rest.{AtRest}
 use Rattle.rules.specs.State.{State}

@@ -1,7 +1,7 @@
 -- Writes that store what neither B, C nor D looks at: 342h, 345h, 346h, 348h to 34Ah, 353h, 358h, 35Dh. They are A alone. So are the
 -- reads that step on, 35Dh and 35Fh.
 use mathlib.Core.Path.{◌≡◌, refl, sym, ◌∙◌, ap}
-use mathlib.Core.Bool.{Bool, false, not, and-false}
+use mathlib.Core.Bool.{Bool, false, and-false}
 use Prim.Native.Nat.{ℕ, ◌+◌, ◌≤◌}
 use native.Mathlib.Omega.{arith}
 use lib.Dec.{eqb}

@@ -1,7 +1,7 @@
 -- A write to 340h, the sequencer idle or waiting, RST neither seen nor driven by it, no SEL of others: A, then "idle, and asked: waiting"
 -- and "waiting, not asked, and the quiet ticks below 8: idle".
 use mathlib.Core.Path.{◌≡◌, refl, ◌∙◌, ap, subst}
-use mathlib.Core.Bool.{Bool, true, false, not, ◌||◌, cond, and-false}
+use mathlib.Core.Bool.{Bool, true, false, ◌||◌, cond, and-false}
 use Prim.Native.Nat.{ℕ}
 use Rattle.rules.specs.Rest.{AtRest, Resting}
 use Rattle.rules.specs.State.{State}

@@ -14,12 +14,10 @@ use Rattle.rules.specs.StepA.{rstfifo, host_a, transfer_a, after_a}
 use Rattle.rules.specs.StepB.{rst_rises, bus_reset, req_rises, after_b, at_req}
 use Rattle.rules.specs.StepC.{Settling, conditions, can_move, move, can_handshake, settle, turns, started, settled_c}
 use Rattle.rules.specs.Answers.{answer_of}
-use Rattle.rules.specs.Step.{step, after}
+use Rattle.rules.specs.Step.{step}
 use Rattle.rules.specs.Examples.{Row, row, misses}
 use Rattle.rules.specs.declared.codes.Code.TheVariants.{Done}
 use Rattle.rules.specs.declared.chip.Conditions.{Conditions}
-use Rattle.rules.specs.declared.registers.Registers.{Registers}
-use Rattle.rules.specs.declared.records.Lines.{Lines}
 use Rattle.rules.specs.declared.records.Event.{Event}
 use Rattle.rules.specs.declared.records.Event.TheVariants.{WordWrite}
 use Rattle.rules.proofs.Computes.{computes}

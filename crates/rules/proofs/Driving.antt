@@ -1,7 +1,6 @@
 -- While the chip is connected the sequencer gives no data; and with IO seen nothing is driven, so that the data seen are those of others.
 use mathlib.Core.Path.{◌≡◌, refl, sym, ap, ◌∙◌}
 use mathlib.Core.Bool.{Bool, true, false, not, ◌&&◌, ◌||◌, and-false, or-false}
-use Prim.Native.Nat.{ℕ}
 use lib.Bits.{or_zero_r}
 use Rattle.rules.specs.State.{State}
 use Rattle.rules.specs.Seen.{phase_number, is_phase, phase_sel, phase_drives, rst_seen, bsy_seen, sel_seen, io_seen, connected, byte_driving, byte_driven, driving, data_driven, parity_driven, data_seen, parity_seen}

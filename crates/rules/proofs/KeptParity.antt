@@ -1,5 +1,5 @@
 -- R-2: what changes the kept parity, and what sets the latch of SCSIPERR, over any event.
-use mathlib.Core.Path.{◌≡◌, refl, ap, sym, ◌∙◌}
+use mathlib.Core.Path.{◌≡◌, refl, ap, ◌∙◌}
 use mathlib.Core.Bool.{Bool, true, false, not, ◌&&◌, ◌||◌, cond}
 use mathlib.Core.List.{List, [], ◌∷◌}
 use Rattle.rules.specs.Examples.{Row, row, misses}

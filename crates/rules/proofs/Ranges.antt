@@ -3,28 +3,28 @@
 use mathlib.Core.Path.{◌≡◌, refl, sym, ◌∙◌}
 use mathlib.Core.Bool.{Bool, true, false, not, ◌&&◌, ◌||◌, cond}
 use mathlib.Core.List.{List, [], ◌∷◌, ◌++◌}
-use Prim.Native.Nat.{ℕ, zero, suc, ◌+◌, ◌-◌, ◌/◌, ◌%◌, ◌^◌, ◌<◌, ◌≤◌}
+use Prim.Native.Nat.{ℕ, zero, suc, ◌+◌, ◌/◌, ◌%◌, ◌^◌, ◌<◌, ◌≤◌}
 use native.Mathlib.Omega.{arith}
 use lib.Dec.{ltb, leb, eqb}
 use lib.Bits.{or_lt}
 use lib.Pow.{are_bytes, pow-lt}
-use lib.ListN.{length, take, drop, get_or, set, replicate, length-append, length-take, length-drop, length-set, length-replicate}
+use lib.ListN.{length, take, drop, get_or, set, replicate, length-append, length-take, length-drop, length-set}
 use borrow.Author.Tests.{ltb-true, ltb-false, leb-false}
-use Rattle.rules.specs.Numbers.{one, byte_of, padded}
+use Rattle.rules.specs.Numbers.{one, byte_of}
 use Rattle.rules.specs.State.{State, Transfer, power_reset}
-use Rattle.rules.specs.Seen.{phase_bsy, phase_sel, phase_drives, own_id, other_id, phase_data, atn_seen, bsy_seen, sel_seen, io_seen, ack_driven, ack_seen, normal, limit, byte_driving, byte_driven, driving, data_driven, parity_driven, data_seen}
+use Rattle.rules.specs.Seen.{phase_drives, own_id, other_id, phase_data, atn_seen, bsy_seen, sel_seen, io_seen, ack_seen, normal, limit, byte_driving, byte_driven, data_driven, data_seen}
 use Rattle.rules.specs.Map.{read_at}
 use Rattle.rules.specs.Records.{lines_of, payload_limit, offset_limit, event_of, well_formed, fields_of, payload_of, decode}
 use Rattle.rules.specs.Events.{writes, reads, value_of, lines_after, offered, asked, port_write}
 use Rattle.rules.specs.Counter.{counter_size, stepped_to, counter_step, counter_with}
 use Rattle.rules.specs.Stack.{stack_byte, stack_place, pointer_after, stack_read, stack_written, pointed}
-use Rattle.rules.specs.Interrupts.{phasemis, instat, irq}
+use Rattle.rules.specs.Interrupts.{phasemis, instat}
 use Rattle.rules.specs.Reads.{scsisigi, scsibus, sstat0, sstat1, sstat2, sstat3, sstat4, dmastat, id_bytes, read_of, read_mapped, value_read}
 use Rattle.rules.specs.Codes.{no_room, access_code, refused_value, is_done}
 use Rattle.rules.specs.StepA.{clrstcnt, clrch, rstfifo, automatic_ack, registers_a, host_a, counter_a, transfer_a, stack_a, identity_a, gives_up, sequencer_a, after_a}
 use Rattle.rules.specs.declared.counts.Direction.{Direction}
 use Rattle.rules.specs.declared.counts.Direction.TheVariants.{Up, Down}
-use Rattle.rules.specs.StepB.{ack_released, registers_with, offset_cleared, bus_reset, beyond_limit, req_within, synchronous_req, stored_byte, req_risen, quiet_after, bus_freed, scsiseq_with, after_sequencer, phase_changed, first_four, after_b}
+use Rattle.rules.specs.StepB.{ack_released, registers_with, offset_cleared, bus_reset, beyond_limit, req_within, synchronous_req, stored_byte, req_risen, quiet_after, bus_freed, after_sequencer, phase_changed, first_four, after_b}
 use Rattle.rules.specs.Sequencer.{sequenced_of, waited, entered, selingo_cleared, selingo_raised, selto_raised, seldo_raised, seldi_raised, selection_freed, silenced, arbitrates, selects, times_out, reselected, connects, sequenced}
 use Rattle.rules.proofs.Sequencing.{Ticking, sequenced_keeps}
 use Rattle.rules.specs.declared.chip.Phase.{Phase}
@@ -34,7 +34,7 @@ use Rattle.rules.specs.declared.chip.Sequencer.{Sequencer}
 use Rattle.rules.specs.Seen.{is_phase}
 use Rattle.rules.specs.StepC.{Settling, conditions, can_move, move, can_handshake, stored_by, handshake, settle, turns, started, settled_c}
 use Rattle.rules.specs.StepD.{finished, after_d}
-use Rattle.rules.specs.Answers.{Stepped, control_driven, answer_of, answer_bytes}
+use Rattle.rules.specs.Answers.{Stepped}
 use Rattle.rules.specs.Step.{ended, done, access, joined, single_ticks, ticks_taken, step_event, step_decoded, step, after}
 use Rattle.rules.specs.Ranges.{EventFits, DecodedFits, TransferFits, RegistersFit, StackFits, InRange, Bytes, TransferBytes, RegistersBytes, InBytes}
 use Rattle.rules.specs.declared.registers.Scsiseq.{Scsiseq}
@@ -58,7 +58,7 @@ use Rattle.rules.specs.declared.chip.Conditions.{Conditions}
 use Rattle.rules.specs.declared.chip.Stack.{Stack}
 use Rattle.rules.proofs.Logic.{never, left_true, right_true, cond_case}
 use Rattle.rules.proofs.InOrder.{Keeps, four_keep, b_keeps}
-use Rattle.rules.proofs.Refusals.{eight_codes, done_passed}
+use Rattle.rules.proofs.Refusals.{done_passed}
 use Rattle.rules.proofs.Rest.{move_inbound, move_full, handshake_full, Report, settling_reports}
 use Rattle.rules.proofs.Settling.{settle_keeps}
 

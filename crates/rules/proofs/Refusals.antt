@@ -12,7 +12,7 @@ use Rattle.rules.specs.Codes.{number_of, absent, test_value, shut, no_room, no_b
 use Rattle.rules.specs.StepA.{after_a}
 use Rattle.rules.specs.StepB.{req_rises, beyond, at_req}
 use Rattle.rules.specs.Answers.{Stepped}
-use Rattle.rules.specs.Step.{ended, done, access, single_ticks, ticks_taken, step_event, step_decoded, step, refused}
+use Rattle.rules.specs.Step.{ended, done, access, single_ticks, ticks_taken, step_event, step_decoded, step}
 use Rattle.rules.specs.declared.codes.Code.{Code}
 use Rattle.rules.specs.declared.codes.Code.TheVariants.{Done, Malformed, Absent, Shut, NoRoom, NoBytes, BeyondLimit, TestValue}
 use Rattle.rules.specs.declared.map.Mapped.TheVariants.{Missing}

@@ -8,10 +8,9 @@ use lib.Dec.{leb}
 use lib.ListN.{get_or}
 use borrow.Author.Tests.{leb-false}
 use Rattle.rules.specs.Numbers.{one}
-use Rattle.rules.specs.Counter.{counter_size}
 use Rattle.rules.specs.State.{State}
 use Rattle.rules.specs.Seen.{is_phase, phase_drives, rst_seen, bsy_seen, sel_seen}
-use Rattle.rules.specs.Sequencer.{bus_free_delay, arbitration_delay, clearing_delay, settle_delay, timeout, asked_by, called, higher_id, sequenced_of, waited, entered, selingo_cleared, selingo_raised, selto_raised, seldo_raised, seldi_raised, silenced, arbitrates, waiting_for, arbitrating_for, selects, clearing_for, times_out, selecting_for, reselected, answering_for, tick_in, uncalled, let_go, forestalled, connects, selected, begun, withdrawn, answers, resolved, sequenced}
+use Rattle.rules.specs.Sequencer.{bus_free_delay, arbitration_delay, clearing_delay, settle_delay, timeout, asked_by, called, higher_id, sequenced_of, waited, entered, silenced, arbitrates, waiting_for, arbitrating_for, selects, clearing_for, times_out, selecting_for, reselected, answering_for, tick_in, uncalled, let_go, forestalled, connects, selected, begun, withdrawn, answers, resolved, sequenced}
 use Rattle.rules.specs.declared.chip.Sequenced.{Sequenced}
 use Rattle.rules.specs.declared.registers.Registers.{Registers}
 use Rattle.rules.specs.declared.chip.Phase.{Phase}

@@ -17,7 +17,7 @@ use Rattle.rules.specs.Seen.{phase_number, is_phase, phase_bsy, phase_sel, phase
 use Rattle.rules.specs.Events.{writes, ticks_of, lines_after, offered, asked, port_write, port_read}
 use Rattle.rules.specs.Codes.{absent, test_value, shut, no_room, no_bytes, access_code}
 use Rattle.rules.specs.Step.{ended, done, access, single_ticks, ticks_taken, step_event}
-use Rattle.rules.specs.Sequencer.{timeout, called, sequenced_of, in_ticks, in_phase, waited, entered, selection_with, latch_enabled, selto_raised, times_out, selecting_for, tick_in, uncalled, let_go, forestalled, connects, selected, begun, withdrawn, answers, resolved, sequenced}
+use Rattle.rules.specs.Sequencer.{timeout, called, sequenced_of, in_ticks, in_phase, waited, entered, selection_with, selto_raised, times_out, selecting_for, tick_in, uncalled, let_go, forestalled, connects, selected, begun, withdrawn, answers, resolved, sequenced}
 use Rattle.rules.specs.declared.chip.Sequenced.{Sequenced}
 use Rattle.rules.specs.StepA.{with_atn, clears, clears_latch, registers_a, gives_up, selection_a, noted_a, selection_latches_a, sequencer_a, after_a}
 use Rattle.rules.specs.StepB.{req_falls, after_req_falls, rst_rises, after_rst_rises, req_rises, after_req_rises, quiet_after, bus_free, after_quiet_ticks, phase_changes, phase_changed, after_phase_changes, registers_with, scsiseq_with, after_sequencer, first_four, in_order, after_b}

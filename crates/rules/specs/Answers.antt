@@ -1,7 +1,7 @@
 -- Answers. "An answer is 16 bytes: code 3, IRQ 1, ACKs issued 4; moves 5, data driven or not 1, RST driven 1, parity level
 -- driven 1; value read 16; control lines driven 8 (order of 343h); data driven 8; offset 4, SCSI FIFO count 4; host FIFO
 -- count 8; then eight bytes: those sent by Normal-mode ACKs in this event, in order, the rest 0."
-use Rattle.std.specs.Prelude.{ℕ, ◌+◌, ◌*◌, ◌/◌, ◌%◌, Bool, true, false, ◌||◌, List, ◌∷◌, length}
+use Rattle.std.specs.Prelude.{ℕ, ◌+◌, ◌*◌, ◌/◌, ◌%◌, false, ◌||◌, List, ◌∷◌, length}
 use Rattle.rules.specs.Numbers.{one, byte_of, padded}
 use Rattle.rules.specs.State.{State}
 use Rattle.rules.specs.Seen.{phase_bsy, phase_sel, ack_driven, driving, data_driven, parity_driven}

@@ -1,7 +1,7 @@
 -- The chip as the code keeps it, and as a state. One state has one chip: FIFO bytes oldest first, 0 past the count.
 -- A chip whose numbers are out of range, which can only be made by hand, is read as the chip with each brought into range.
 use Rattle.std.specs.Prelude.{ℕ, ◌%◌, min, List, length, take}
-use Rattle.rules.specs.State.{State, Transfer, power_reset}
+use Rattle.rules.specs.State.{State, Transfer}
 use Rattle.rules.specs.Counter.{counter_size}
 use Rattle.rules.specs.Numbers.{padded}
 use Rattle.rules.specs.declared.registers.Registers.{Registers}

@@ -1,5 +1,5 @@
 -- What a read gives: one definition for each register, then the choice among them by name.
-use Rattle.std.specs.Prelude.{ℕ, ◌+◌, ◌*◌, ◌-◌, ◌%◌, Bool, true, false, not, ◌&&◌, List, [], ◌∷◌, eqb, leb, length, get_or}
+use Rattle.std.specs.Prelude.{ℕ, ◌+◌, ◌*◌, ◌-◌, ◌%◌, false, not, ◌&&◌, List, [], ◌∷◌, eqb, leb, length, get_or}
 use Rattle.rules.specs.Numbers.{byte_of}
 use Rattle.rules.specs.Registers.{scsiseq_byte, sxfrctl0_byte, sxfrctl1_byte, simode0_byte, simode1_byte, dmacntrl0_byte, dmacntrl1_byte}
 use Rattle.rules.specs.State.{State}

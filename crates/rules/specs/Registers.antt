@@ -1,7 +1,7 @@
 -- The stored registers, each from the byte written and to the byte read back.
 -- Document 01, "Registers": "Names and bits as document 001. Reserved bits (341h 2 and 0, 342h 0, 350h 7, 353h 5) are not
 -- stored and read 0."
-use Rattle.std.specs.Prelude.{ℕ, ◌+◌, ◌*◌, Bool, true, false, ◌||◌}
+use Rattle.std.specs.Prelude.{ℕ, ◌+◌, ◌*◌, Bool, false, ◌||◌}
 use Rattle.rules.specs.Numbers.{bit, field, one, byte_of}
 use Rattle.rules.specs.declared.registers.Scsiseq.{Scsiseq}
 use Rattle.rules.specs.declared.registers.Sxfrctl0.{Sxfrctl0}

@@ -1,5 +1,5 @@
 -- A chip at rest: what every event leaves, so that an event of 0 ticks changes nothing.
-use Rattle.std.specs.Prelude.{◌≡◌, true, false, ◌||◌, ℕ}
+use Rattle.std.specs.Prelude.{◌≡◌, true, false, ◌||◌}
 use Rattle.rules.specs.State.{State, Transfer}
 use Rattle.rules.specs.Seen.{bsy_seen, sel_seen, ack_seen}
 use Rattle.rules.specs.Sequencer.{sequenced_of, sequenced}

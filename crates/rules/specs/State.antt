@@ -1,5 +1,5 @@
 -- The state of the chip: its components, with the two FIFOs as lists of bytes, oldest first.
-use Rattle.std.specs.Prelude.{ℕ, Bool, true, false, List, [], replicate}
+use Rattle.std.specs.Prelude.{ℕ, Bool, false, List, [], replicate}
 use Rattle.rules.specs.Registers.{scsiseq_of, sxfrctl0_of, sxfrctl1_of, scsisig_of, scsirate_of, scsiid_of, simode0_of, simode1_of, dmacntrl0_of, dmacntrl1_of}
 use Rattle.rules.specs.declared.registers.Registers.{Registers}
 use Rattle.rules.specs.declared.records.Lines.{Lines}

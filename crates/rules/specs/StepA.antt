@@ -1,5 +1,5 @@
 -- "A. The event's own effect.", component by component.
-use Rattle.std.specs.Prelude.{ℕ, ◌+◌, ◌%◌, Bool, true, false, not, ◌&&◌, ◌||◌, cond, List, [], ◌++◌, leb, drop}
+use Rattle.std.specs.Prelude.{ℕ, ◌+◌, ◌%◌, Bool, not, ◌&&◌, ◌||◌, cond, List, [], ◌++◌, leb, drop}
 use Rattle.rules.specs.Numbers.{bit}
 use Rattle.rules.specs.Registers.{scsiseq_of, sxfrctl0_of, sxfrctl1_of, scsisig_of, scsirate_of, scsiid_of, simode0_of, simode1_of, dmacntrl0_of, dmacntrl1_of}
 use Rattle.rules.specs.State.{State, Transfer}

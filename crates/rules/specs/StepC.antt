@@ -1,5 +1,5 @@
 -- "C. Settling. Repeat the first that is possible, until neither is"
-use Rattle.std.specs.Prelude.{ℕ, zero, suc, ◌+◌, ◌-◌, Bool, true, false, not, ◌&&◌, cond, List, [], ◌∷◌, ◌++◌, ltb, length, take, drop, get_or}
+use Rattle.std.specs.Prelude.{ℕ, zero, suc, ◌+◌, ◌-◌, Bool, true, not, ◌&&◌, cond, List, [], ◌∷◌, ◌++◌, ltb, length, take, drop, get_or}
 use Rattle.rules.specs.State.{State, Transfer}
 use Rattle.rules.specs.Changed.{transfer_with_host, transfer_with_scsi, transfer_with_counter, transfer_with_offset, transfer_with_ack, transfer_with_last}
 use Rattle.rules.specs.Seen.{req_seen, matched, path, synchronous, data_seen}

@@ -12,8 +12,8 @@ use Rattle.rules.specs.Records.{decode}
 use Rattle.rules.specs.Events.{offered}
 use Rattle.rules.specs.Step.{step, after}
 use Rattle.rules.proofs.StayIdle.{SequencerOff}
-use Rattle.runs.specs.Comes.{is_refusal, event_bytes, all_come, along, acks_along}
-use Rattle.runs.specs.Run.{Starts, run_allows, accepted, sent_by}
+use Rattle.runs.specs.Comes.{is_refusal, event_bytes, along, acks_along}
+use Rattle.runs.specs.Run.{run_allows, accepted, sent_by}
 use Rattle.runs.specs.Clearing.{all_off, all_clear, short_clearing_of}
 use Rattle.runs.specs.Rounds.{Offers, Round, records_of, after_reading, after_round, taken_in, number_read, Proceeds, Follows, Chain, taken, reached, after_rounds, Going, ChainGoing, taken_so_far, AllCleared, all_records}
 use Rattle.runs.proofs.Along.{after_append, along_append, earlier_comes}

@@ -11,7 +11,7 @@ use Rattle.rules.specs.State.{State}
 use Rattle.rules.specs.Seen.{io_seen, automatic, normal, matched, path}
 use Rattle.rules.specs.Events.{writes, value_of, offered, asked, wide, port_write, port_read}
 use Rattle.rules.specs.Codes.{shut, no_room}
-use Rattle.rules.specs.StepA.{clrstcnt, clrch, rstfifo, automatic_ack, registers_a, host_a, counter_a, transfer_a, after_a}
+use Rattle.rules.specs.StepA.{rstfifo, automatic_ack, registers_a, host_a, counter_a, transfer_a, after_a}
 use Rattle.rules.specs.StepB.{ack_released, bus_reset, req_rises, synchronous_req, req_within, stored_byte, req_risen, bus_freed, after_sequencer, phase_changed, at_req, after_b}
 use Rattle.rules.specs.declared.registers.Registers.{Registers}
 use Rattle.rules.specs.declared.registers.Sxfrctl0.{Sxfrctl0}

@@ -5,7 +5,6 @@ use Rattle.rules.specs.State.{State}
 use Rattle.rules.specs.Records.{decode}
 use Rattle.rules.specs.Step.{step}
 use Rattle.rules.specs.declared.codes.Code.{Code}
-use Rattle.rules.specs.declared.codes.Code.TheVariants.{Done, Malformed, Absent, Shut, NoRoom, NoBytes, BeyondLimit, TestValue}
 use Rattle.rules.specs.declared.records.Event.{Event}
 use Rattle.rules.specs.declared.records.Decoded.{Decoded}
 use Rattle.rules.specs.declared.records.Decoded.TheVariants.{Well, Ill}

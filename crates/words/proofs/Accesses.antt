@@ -1,15 +1,15 @@
 -- What a word access gives: refused, the chip as it was; or done.
-use Prim.Native.Nat.{ℕ, zero, suc, ◌+◌, ◌*◌, ◌/◌, ◌%◌, ◌<◌, ◌≤◌}
+use Prim.Native.Nat.{ℕ, ◌+◌, ◌*◌, ◌/◌, ◌%◌, ◌<◌, ◌≤◌}
 use mathlib.Core.Path.{◌≡◌, refl, sym, ◌∙◌, ap}
-use mathlib.Core.Bool.{Bool, true, false, not, ◌&&◌, ◌||◌, cond, beq}
-use mathlib.Core.List.{List, [], ◌∷◌, ◌++◌}
+use mathlib.Core.Bool.{Bool, true, false, not, ◌||◌, cond, beq}
+use mathlib.Core.List.{[], ◌∷◌}
 use native.Mathlib.Omega.{arith}
 use lib.Dec.{ltb}
 use borrow.Author.Tests.{ltb-true, ltb-false, lt-ltb, le-ltb}
 use lib.ListN.{length}
 use Rattle.rules.specs.State.{State}
 use Rattle.rules.specs.Records.{well_formed, fields_of, decode, payload_of}
-use Rattle.rules.specs.Events.{writes, value_of, offered, asked, wide, port_write, port_read}
+use Rattle.rules.specs.Events.{writes, offered, asked, wide, port_write, port_read}
 use Rattle.rules.specs.Codes.{absent, test_value, shut, no_room, no_bytes, access_code, refused_value, is_done, is_refusal}
 use Rattle.rules.specs.Step.{refused, done, access, step_event, step_decoded, step}
 use Rattle.rules.specs.declared.registers.Registers.{Registers}

@@ -1,19 +1,19 @@
 -- Two blocks of a chip at rest settle as one, and leave what it leaves.
-use Prim.Native.Nat.{ℕ, zero, suc, ◌+◌, ◌*◌, ◌-◌, ◌<◌, ◌≤◌}
+use Prim.Native.Nat.{ℕ, zero, suc, ◌+◌, ◌≤◌}
 use mathlib.Core.Path.{◌≡◌, refl, sym, ◌∙◌, ap}
 use mathlib.Core.Bool.{Bool, true, false, not, ◌&&◌, ◌||◌, cond, beq}
-use mathlib.Core.List.{List, [], ◌∷◌, ◌++◌, append_assoc, append-nil}
+use mathlib.Core.List.{List, ◌++◌}
 use native.Mathlib.Omega.{arith}
 use native.Mathlib.Nat.{zero-add}
 use lib.Dec.{ltb}
-use lib.ListN.{length, take, drop, get_or, replicate}
-use borrow.Author.Tests.{lt-ltb, le-ltb}
+use lib.ListN.{length, drop}
+use borrow.Author.Tests.{lt-ltb}
 use Rattle.rules.specs.Rest.{AtRest}
 use Rattle.rules.specs.State.{State, Transfer}
 use Rattle.rules.specs.Changed.{with_transfer}
-use Rattle.rules.specs.Ranges.{TransferFits, InRange}
+use Rattle.rules.specs.Ranges.{TransferFits}
 use Rattle.rules.specs.Seen.{ack_driven, ack_seen, bsy_seen, byte_driven, byte_driving, cd_seen, connected, data_driven, data_seen, io_seen, matched, msg_seen, normal, path, rst_seen, sel_seen, synchronous}
-use Rattle.rules.specs.StepC.{Settling, conditions, settle, turns, started}
+use Rattle.rules.specs.StepC.{Settling, conditions, turns, started}
 use Rattle.rules.specs.StepD.{status_d, finished}
 use Rattle.rules.specs.declared.chip.Conditions.{Conditions}
 use Rattle.rules.specs.declared.chip.Status.{Status}

@@ -7,7 +7,7 @@ use native.Mathlib.Omega.{arith}
 use lib.ListN.{get_or}
 use Rattle.rules.specs.Rest.{AtRest}
 use Rattle.rules.specs.State.{State}
-use Rattle.rules.specs.Ranges.{Bytes, EventFits, InRange, InBytes}
+use Rattle.rules.specs.Ranges.{Bytes, EventFits, InRange}
 use Rattle.rules.specs.Events.{writes, lines_after}
 use Rattle.rules.specs.Codes.{access_code, is_done, is_refusal, refused_value}
 use Rattle.rules.specs.Answers.{Stepped}
@@ -22,8 +22,8 @@ use Rattle.rules.specs.declared.records.Event.{Event}
 use Rattle.rules.proofs.Logic.{never, cond_case}
 use Rattle.rules.proofs.InOrder.{Apart, b_leaves}
 use Rattle.rules.proofs.Refusals.{not_beyond}
-use Rattle.rules.proofs.Ranges.{after_b_fits, step_in_range}
-use Rattle.rules.proofs.Still.{done_rests, step_rests}
+use Rattle.rules.proofs.Ranges.{after_b_fits}
+use Rattle.rules.proofs.Still.{done_rests}
 use Rattle.words.specs.Words.{Strung, strung_none, stopped, one_done, one_then, strung, word_write, word_read}
 use Rattle.words.proofs.Port.{word_written_lem, word_read_lem}
 use Rattle.words.proofs.Accesses.{shut_to_words, step_write, step_read, write_or_refused, read_or_refused, write_found_open, read_found_open}

@@ -1,7 +1,7 @@
 -- Outbound, bytes that come to the host FIFO in two parts, settled after each, settle as if they had come at once: a handshake may
 -- come before a move as well as after it, so bytes that come later find nothing done that they would have changed.
 use mathlib.Core.Path.{◌≡◌, refl, sym, ◌∙◌, ap}
-use mathlib.Core.Bool.{Bool, true, false, cond}
+use mathlib.Core.Bool.{Bool, true, false}
 use mathlib.Core.List.{List, [], ◌∷◌, ◌++◌, append_assoc, append-nil}
 use Prim.Native.Nat.{ℕ, zero, suc, ◌+◌, ◌<◌, ◌≤◌}
 use native.Mathlib.Omega.{arith}

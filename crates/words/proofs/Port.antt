@@ -2,18 +2,18 @@
 -- and D leaves all but REQINIT as it was.
 use mathlib.Core.Path.{◌≡◌, refl, sym, ◌∙◌, ap}
 use mathlib.Core.Bool.{Bool, true, false, not, ◌&&◌, ◌||◌, cond, and-not_self}
-use mathlib.Core.List.{List, [], ◌∷◌, ◌++◌}
-use Prim.Native.Nat.{ℕ, ◌+◌, ◌*◌, ◌≤◌, min}
+use mathlib.Core.List.{List, ◌++◌}
+use Prim.Native.Nat.{ℕ, ◌≤◌}
 use lib.Dec.{leb}
-use lib.ListN.{length, drop}
+use lib.ListN.{drop}
 use Rattle.rules.specs.Rest.{AtRest}
 use Rattle.rules.specs.State.{State, Transfer}
-use Rattle.rules.specs.Changed.{with_transfer, with_status, with_latches, with_host}
+use Rattle.rules.specs.Changed.{with_transfer, with_host}
 use Rattle.rules.specs.Seen.{ack_seen, bsy_seen, connected, data_seen, data_driven, byte_driven, byte_driving, matched, mismatched, req_seen, rst_seen, sel_seen, synchronous, automatic}
 use Rattle.rules.specs.Events.{writes, reads, value_of, ticks_of, lines_after, offered, asked, port_write}
 use Rattle.rules.specs.Reads.{value_read}
 use Rattle.rules.specs.StepA.{clears, clears_latch, clears_error, clrstcnt, clrch, rstfifo, latch_access, automatic_ack, registers_a, host_a, counter_a, transfer_a, error_a, status_a, latches_a, stack_a, identity_a, gives_up, selection_a, noted_a, selection_latches_a, sequencer_a, after_a}
-use Rattle.rules.specs.StepB.{req_falls, after_req_falls, rst_rises, after_rst_rises, req_rises, after_req_rises, quiet_after, bus_free, after_quiet_ticks, phase_changes, after_phase_changes, first_four, in_order, after_b, at_req, beyond}
+use Rattle.rules.specs.StepB.{req_falls, after_req_falls, rst_rises, after_rst_rises, req_rises, after_req_rises, quiet_after, bus_free, after_quiet_ticks, phase_changes, after_phase_changes, first_four, in_order, after_b}
 use Rattle.rules.specs.StepC.{Settling, conditions, settle, turns, started, settled_c, move, handshake}
 use Rattle.rules.specs.StepD.{fifo_conflict, pio_ready, status_raised, status_d, latches_d, finished, after_d}
 use Rattle.rules.specs.Answers.{Stepped}

@@ -1,18 +1,15 @@
 -- Records up to the first refusal, in two parts.
-use Prim.Native.Nat.{ℕ, zero, suc, ◌+◌, ◌*◌}
+use Prim.Native.Nat.{ℕ, ◌+◌}
 use mathlib.Core.Path.{◌≡◌, refl, sym, ◌∙◌, ap}
 use mathlib.Core.Bool.{Bool, true, false, cond}
 use mathlib.Core.List.{List, [], ◌∷◌, ◌++◌, append_assoc}
-use native.Mathlib.Omega.{arith}
 use native.Mathlib.Nat.{add_assoc, zero-add}
 use Rattle.rules.specs.State.{State}
-use Rattle.rules.specs.Codes.{is_refusal, is_done}
+use Rattle.rules.specs.Codes.{is_refusal}
 use Rattle.rules.specs.Answers.{Stepped}
 use Rattle.rules.specs.Step.{step}
-use Rattle.rules.specs.declared.codes.Code.{Code}
-use Rattle.rules.specs.declared.codes.Code.TheVariants.{Done}
 use Rattle.rules.proofs.Refusals.{refusal_changes_nothing}
-use Rattle.words.specs.Words.{Strung, strung_none, stopped, one_done, one_then, strung, word_writes, word_write}
+use Rattle.words.specs.Words.{Strung, strung_none, stopped, one_done, one_then, strung}
 
 -- those of one part that all were done, and those after it
 unfoldable pub strung_after : Strung → Strung → Strung

@@ -1,5 +1,5 @@
 -- Two laws of settling: it adds to what was counted before it, and turns that are the same settle the same.
-use mathlib.Core.Path.{◌≡◌, refl, ◌∙◌, ap}
+use mathlib.Core.Path.{◌≡◌, refl}
 use mathlib.Core.Bool.{Bool, true, false, cond}
 use mathlib.Core.List.{append_assoc}
 use Prim.Native.Nat.{ℕ, zero, suc}

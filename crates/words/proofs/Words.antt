@@ -6,7 +6,7 @@ use mathlib.Core.List.{List, [], ◌∷◌, ◌++◌, append-nil}
 use native.Mathlib.Omega.{arith}
 use lib.ListN.{length, take, drop, get_or, replicate, length-append, length-drop, take-append-drop}
 use Rattle.rules.specs.Rest.{AtRest}
-use Rattle.rules.specs.State.{State, Transfer}
+use Rattle.rules.specs.State.{State}
 use Rattle.rules.specs.Changed.{with_host}
 use Rattle.rules.specs.Ranges.{Bytes, InRange}
 use Rattle.rules.specs.StepC.{Settling, conditions, turns, started}
@@ -14,7 +14,6 @@ use Rattle.rules.specs.Events.{offered}
 use Rattle.rules.specs.Reads.{value_read}
 use Rattle.rules.specs.Answers.{Stepped}
 use Rattle.rules.specs.Step.{step}
-use Rattle.rules.specs.declared.chip.Conditions.{Conditions}
 use Rattle.rules.specs.declared.records.Event.TheVariants.{WordWrite, WordRead}
 use Rattle.rules.specs.declared.codes.Code.TheVariants.{Done}
 use Rattle.rules.proofs.Logic.{never}

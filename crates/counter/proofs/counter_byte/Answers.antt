@@ -1,5 +1,4 @@
 use Prim.Native.Nat.{◌*◌}
-use borrow.Author.Rules.{rules}
 use native.Mathlib.Omega.{arith}
 use Rattle.laws.proofs.Bits.{shr_past}
 use Rattle.counter.proofs.counter_byte.Goals as goal

@@ -1,4 +1,3 @@
-use borrow.Author.Rules.{rules}
 use mathlib.Core.Path.{ap}
 use Rattle.rules.specs.Counter.{counter_step}
 use Rattle.counter.proofs.Steps.{said}

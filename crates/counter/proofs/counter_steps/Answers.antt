@@ -1,6 +1,5 @@
 use Prim.Native.Nat.{ℕ}
-use borrow.Author.Rules.{rules}
-use mathlib.Core.Path.{◌≡◌, refl, ap, sym, ◌∙◌}
+use mathlib.Core.Path.{ap, sym, ◌∙◌}
 use native.Mathlib.Omega.{arith}
 use Rattle.counter.specs.Steps.{counter_steps}
 use Rattle.counter.proofs.Steps.{no_steps, steps_reduced}

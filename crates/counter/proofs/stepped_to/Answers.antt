@@ -1,4 +1,3 @@
-use borrow.Author.Rules.{rules}
 use native.Mathlib.Nat.{mod-add-mod}
 use Rattle.rules.specs.Counter.{stepped_to}
 use Rattle.counter.proofs.stepped_to.Goals as goal

@@ -1,13 +1,8 @@
 -- The loop's invariant: the bytes passed, then zeros.
-use Prim.Native.Nat.{ℕ, ◌+◌, ◌-◌, ◌≤◌}
-use mathlib.Core.Path.{◌≡◌, ap, ◌∙◌}
-use mathlib.Core.List.{List}
-use borrow.Author.Rules.{rules}
-use native.Mathlib.Omega.{arith}
-use lib.ListN.{length, take, drop, length-drop, length-set}
-use lib.Seq.{length-take-le}
+use Prim.Native.Nat.{◌+◌, ◌≤◌}
+use mathlib.Core.Path.{◌≡◌}
+use lib.ListN.{length, take, drop}
 use Rattle.rules.specs.Numbers.{padded}
-use Rattle.laws.proofs.Lists.{window_copy, padded_full}
 use Rattle.hexlines.proofs.copied.Given as goal
 
 abbrev pub invariant-loop-i : goal.invariant-loop-i

@@ -1,10 +1,9 @@
 -- Both digits are right at each of the 256 bytes, by computing them.
 use Prim.Native.Nat.{ℕ, ◌+◌, ◌*◌, ◌/◌, ◌%◌, ◌<◌}
 use mathlib.Core.Bool.{Bool}
-use borrow.Author.Rules.{rules}
 use native.Mathlib.Omega.{arith}
-use lib.Dec.{T, eqb, eqb→eq}
-use Rattle.laws.proofs.Tables.{below, below_at}
+use lib.Dec.{eqb, eqb→eq}
+use Rattle.laws.proofs.Tables.{below_at}
 use Rattle.hexlines.specs.Hex.{digit_of}
 use Rattle.hexlines.proofs.digits.Goals as goal
 

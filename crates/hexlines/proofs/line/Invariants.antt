@@ -1,12 +1,9 @@
 -- The loop's invariant: the digits of the bytes passed stand in their place in out.
-use Prim.Native.Nat.{◌+◌, ◌-◌, ◌*◌, ◌/◌, ◌%◌, ◌≤◌, ◌<◌, ◌^◌}
-use mathlib.Core.Path.{◌≡◌, refl}
-use borrow.Author.Rules.{rules}
-use native.Mathlib.Omega.{arith}
-use lib.ListN.{length, length-set}
-use lib.Seq.{paste, paste-zero}
+use Prim.Native.Nat.{◌+◌, ◌*◌, ◌≤◌, ◌<◌, ◌^◌}
+use mathlib.Core.Path.{◌≡◌}
+use lib.ListN.{length}
+use lib.Seq.{paste}
 use Rattle.hexlines.specs.Hex.{line_of}
-use Rattle.hexlines.proofs.LineByLine.{put_byte, put_end}
 use Rattle.hexlines.proofs.line.Given as goal
 
 abbrev pub invariant-loop-i : goal.invariant-loop-i

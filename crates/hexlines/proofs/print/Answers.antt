@@ -1,12 +1,12 @@
 -- The loop's invariant: the lines of the answers passed, then the rest of out as it was.
-use Prim.Native.Nat.{ℕ, ◌+◌, ◌-◌, ◌*◌, ◌≤◌, ◌<◌, ◌^◌}
+use Prim.Native.Nat.{ℕ, ◌*◌}
 use mathlib.Core.Path.{◌≡◌, refl, ap, ◌∙◌}
 use mathlib.Core.List.{List, ◌++◌}
 use borrow.Author.Rules.{rules}
 use native.Mathlib.Omega.{arith}
-use lib.ListN.{length, drop}
+use lib.ListN.{drop}
 use lib.Seq.{paste}
-use Rattle.hexlines.specs.Hex.{answers_in, line_of, lines_of}
+use Rattle.hexlines.specs.Hex.{line_of, lines_of}
 use Rattle.hexlines.proofs.LineByLine.{put_line}
 use Rattle.hexlines.proofs.print.Goals as goal
 

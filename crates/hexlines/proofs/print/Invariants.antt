@@ -1,13 +1,9 @@
 -- The loop's invariant: the lines of the answers passed, then the rest of out as it was.
-use Prim.Native.Nat.{ℕ, ◌+◌, ◌-◌, ◌*◌, ◌≤◌, ◌<◌, ◌^◌}
-use mathlib.Core.Path.{◌≡◌, refl, ap, ◌∙◌}
-use mathlib.Core.List.{List, ◌++◌}
-use borrow.Author.Rules.{rules}
-use native.Mathlib.Omega.{arith}
+use Prim.Native.Nat.{◌*◌, ◌≤◌, ◌<◌, ◌^◌}
+use mathlib.Core.Path.{◌≡◌}
+use mathlib.Core.List.{◌++◌}
 use lib.ListN.{length, drop}
-use lib.Seq.{paste}
-use Rattle.hexlines.specs.Hex.{answers_in, line_of, lines_of}
-use Rattle.hexlines.proofs.LineByLine.{put_line}
+use Rattle.hexlines.specs.Hex.{answers_in, lines_of}
 use Rattle.hexlines.proofs.print.Given as goal
 
 abbrev pub invariant-loop-k : goal.invariant-loop-k

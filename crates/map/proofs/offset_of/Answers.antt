@@ -1,5 +1,4 @@
 -- Each arm computes the offset of its register.
-use borrow.Author.Rules.{rules}
 use Rattle.map.proofs.offset_of.Goals as goal
 
 pub returns-in-SCSISEQ : goal.returns-in-SCSISEQ

@@ -1,5 +1,4 @@
 -- Each arm computes the table at its key; the rest lies in 25..=27 or is past the table.
-use borrow.Author.Rules.{rules}
 use borrow.Author.Tests.{ltb-true, ltb-false}
 use native.Mathlib.Omega.{arith}
 use mathlib.Core.Path.{◌≡◌, refl, sym, ◌∙◌}

@@ -1,4 +1,3 @@
-use borrow.Author.Rules.{rules}
 use native.Mathlib.Omega.{arith}
 use Rattle.laws.proofs.Bits.{byte_ones_le, one_of, one_le}
 use Rattle.parity.proofs.is_even.Goals as goal

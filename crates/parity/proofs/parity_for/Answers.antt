@@ -1,4 +1,3 @@
-use borrow.Author.Rules.{rules}
 use mathlib.Core.Path.{ap}
 use Rattle.rules.specs.Numbers.{even}
 use Rattle.parity.proofs.parity_for.Goals as goal

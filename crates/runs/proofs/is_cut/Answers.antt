@@ -1,4 +1,3 @@
-use borrow.Author.Rules.{rules}
 use Rattle.runs.specs.Cut.{cut_value}
 use Rattle.runs.proofs.is_cut.Goals as goal
 

@@ -1,4 +1,3 @@
-use borrow.Author.Rules.{rules}
 use Rattle.runs.proofs.run_allows.Goals as goal
 
 -- the arm that asks write_allowed

@@ -1,4 +1,3 @@
-use borrow.Author.Rules.{rules}
 use Rattle.runs.specs.Run.{write_allowed}
 use Rattle.runs.proofs.write_allowed.Goals as goal
 

@@ -1,7 +1,6 @@
 use Prim.Native.Nat.{ℕ, ◌+◌, ◌%◌}
 use mathlib.Core.Path.{ap, ◌∙◌}
 use native.Mathlib.Omega.{arith}
-use borrow.Author.Rules.{rules}
 use Rattle.rules.specs.Stack.{stack_size}
 use Rattle.stack.proofs.Places.{place_below}
 use Rattle.stack.proofs.next_of.Goals as goal

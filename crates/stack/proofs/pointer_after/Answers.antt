@@ -1,4 +1,3 @@
-use borrow.Author.Rules.{rules}
 use Rattle.rules.specs.Stack.{stack_place, pointer_after}
 use Rattle.stack.proofs.pointer_after.Goals as goal
 

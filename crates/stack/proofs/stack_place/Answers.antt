@@ -1,4 +1,3 @@
-use borrow.Author.Rules.{rules}
 use Rattle.rules.specs.Stack.{stack_place}
 use Rattle.stack.proofs.stack_place.Goals as goal
 

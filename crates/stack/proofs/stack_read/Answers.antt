@@ -1,4 +1,3 @@
-use borrow.Author.Rules.{rules}
 use Rattle.rules.specs.Stack.{stack_read}
 use Rattle.stack.proofs.stack_read.Goals as goal
 

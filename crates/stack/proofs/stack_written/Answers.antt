@@ -1,4 +1,3 @@
-use borrow.Author.Rules.{rules}
 use native.Mathlib.Omega.{arith}
 use Rattle.rules.specs.Stack.{stack_written}
 use Rattle.stack.proofs.Places.{place_lt}

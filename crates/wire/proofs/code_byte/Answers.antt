@@ -1,5 +1,4 @@
 use native.Mathlib.Omega.{arith}
-use borrow.Author.Rules.{rules}
 use Rattle.laws.proofs.Bits.{joined_bit, joined_field, one_below}
 use Rattle.wire.proofs.Codes.{number_below}
 use Rattle.wire.proofs.code_byte.Goals as goal

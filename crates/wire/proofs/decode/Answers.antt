@@ -1,7 +1,6 @@
 use native.Mathlib.Omega.{arith}
 use lib.Bits.{and_mask}
 use lib.ListN.{length, get_or}
-use borrow.Author.Rules.{rules}
 use borrow.Author.Tests.{eq-eqb, ne_eqb}
 use Rattle.rules.specs.Records.{decode}
 use Rattle.wire.proofs.decode.Goals as goal

@@ -1,5 +1,4 @@
 use mathlib.Core.Path.{sym}
-use borrow.Author.Rules.{rules}
 use Rattle.rules.specs.Records.{well_formed}
 use Rattle.wire.proofs.Formed.{by_test}
 use Rattle.wire.proofs.drive_of.Goals as goal

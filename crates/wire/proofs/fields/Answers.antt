@@ -1,6 +1,5 @@
 use mathlib.Core.Path.{◌≡◌}
 use Prim.Native.Nat.{zero-le}
-use borrow.Author.Rules.{rules}
 use borrow.Author.Tests.{le-ltb}
 use Rattle.rules.specs.Records.{well_formed, fields_of}
 use Rattle.rules.specs.declared.records.Decoded.TheVariants.{Ill}

@@ -1,6 +1,5 @@
 use Prim.Native.Nat.{◌/◌}
 use lib.Bits.{mask_lt}
-use borrow.Author.Rules.{rules}
 use Rattle.rules.specs.Records.{lines_of}
 use Rattle.laws.proofs.Bits.{field_and}
 use Rattle.wire.proofs.lines_of.Goals as goal

@@ -1,6 +1,5 @@
 use native.Mathlib.Omega.{arith}
 use lib.Bits.{and_mask}
-use borrow.Author.Rules.{rules}
 use Rattle.laws.proofs.Bits.{joined_bit, one_below}
 use Rattle.wire.proofs.moves_byte.Goals as goal
 

@@ -1,4 +1,3 @@
-use borrow.Author.Rules.{rules}
 use Rattle.wire.proofs.well_if.Goals as goal
 
 pub returns-then-t : goal.returns-then-t

@@ -4,7 +4,6 @@ use mathlib.Core.Bool.{Bool, true, false}
 use native.Mathlib.Omega.{arith}
 use lib.Dec.{leb}
 use borrow.Author.Tests.{leb-true, leb-false, le-leb, lt-leb}
-use borrow.Author.Rules.{rules}
 use Rattle.words.specs.Calls.{writable}
 use Rattle.words.proofs.is_writable.Goals as goal
 

@@ -1,10 +1,7 @@
-use Prim.Native.Nat.{◌-◌}
-use mathlib.Core.List.{[]}
 use native.Mathlib.Omega.{arith}
-use lib.ListN.{drop}
 use lib.Seq.{get_or-drop}
 use borrow.Author.Rules.{rules}
-use Rattle.fifos.proofs.Copied.{Copied, begun_from, again, ended}
+use Rattle.fifos.proofs.Copied.{begun_from, again, ended}
 use Rattle.fifos.proofs.scsi.window.Goals as goal
 
 pub loop-i-init : goal.loop-i-init

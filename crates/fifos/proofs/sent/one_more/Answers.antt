@@ -1,4 +1,3 @@
-use borrow.Author.Rules.{rules}
 use Rattle.fifos.proofs.Laws.{bytes_sent, pushed}
 use Rattle.fifos.proofs.sent.one_more.Goals as goal
 

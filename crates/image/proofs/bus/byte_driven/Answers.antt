@@ -1,7 +1,5 @@
-use Prim.Native.Nat.{ℕ}
 use mathlib.Core.Path.{◌≡◌, refl}
 use mathlib.Core.Bool.{Bool, cond}
-use borrow.Author.Rules.{rules}
 use Rattle.rules.specs.Seen.{byte_driven, byte_driving, normal}
 use Rattle.rules.specs.State.{State}
 use Rattle.image.specs.Image.{state_at}

@@ -1,7 +1,5 @@
-use Prim.Native.Nat.{ℕ}
-use mathlib.Core.Path.{◌≡◌, refl, ap, ◌∙◌}
-use mathlib.Core.Bool.{Bool, true, false, cond}
-use borrow.Author.Rules.{rules}
+use mathlib.Core.Path.{◌≡◌, ap, ◌∙◌}
+use mathlib.Core.Bool.{Bool, cond}
 use Rattle.rules.specs.Seen.{phase_drives, phase_data, byte_driven, data_driven}
 use Rattle.rules.specs.State.{State}
 use Rattle.rules.specs.declared.chip.Phase.{Phase}

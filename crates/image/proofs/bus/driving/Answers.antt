@@ -1,6 +1,5 @@
-use mathlib.Core.Path.{◌≡◌, refl, ap, ◌∙◌}
-use mathlib.Core.Bool.{Bool, true, false, ◌||◌}
-use borrow.Author.Rules.{rules}
+use mathlib.Core.Path.{◌≡◌, ap, ◌∙◌}
+use mathlib.Core.Bool.{Bool, ◌||◌}
 use Rattle.rules.specs.Seen.{phase_drives, byte_driving, driving}
 use Rattle.rules.specs.State.{State}
 use Rattle.image.specs.Image.{state_at}

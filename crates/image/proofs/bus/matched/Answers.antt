@@ -1,4 +1,3 @@
-use borrow.Author.Rules.{rules}
 use borrow.Author.Tests.{eq-eqb, ne_eqb}
 use Rattle.image.proofs.Phases.{matched_by}
 use Rattle.image.proofs.bus.matched.Goals as goal

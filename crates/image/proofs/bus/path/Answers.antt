@@ -1,6 +1,5 @@
 use mathlib.Core.Path.{◌≡◌}
 use mathlib.Core.Bool.{Bool, not, ◌&&◌, beq}
-use borrow.Author.Rules.{rules}
 use Rattle.rules.specs.Seen.{path, normal}
 use Rattle.rules.specs.declared.registers.Registers.{Registers}
 use Rattle.image.specs.Image.{registers_at}

@@ -1,7 +1,6 @@
-use Prim.Native.Nat.{◌-◌}
 use native.Mathlib.Omega.{arith}
-use lib.ListN.{drop, length-drop}
-use Rattle.image.proofs.Pastes.{Pasted, begun, again, ended, unwritten}
+use lib.ListN.{length-drop}
+use Rattle.image.proofs.Pastes.{begun, again, ended, unwritten}
 use Rattle.image.proofs.copies.copied.Goals as goal
 
 pub loop-i-init : goal.loop-i-init

@@ -1,7 +1,5 @@
-use Prim.Native.Nat.{◌-◌}
-use native.Mathlib.Omega.{arith}
-use lib.ListN.{drop, length-drop}
-use Rattle.image.proofs.Pastes.{Pasted, begun, again, ended, unwritten}
+use lib.ListN.{drop}
+use Rattle.image.proofs.Pastes.{Pasted}
 use Rattle.image.proofs.copies.copied.Given as goal
 
 abbrev pub invariant-loop-i : goal.invariant-loop-i

@@ -1,10 +1,10 @@
-use Prim.Native.Nat.{ℕ, ◌+◌, ◌-◌, ◌≤◌}
+use Prim.Native.Nat.{ℕ, ◌+◌, ◌≤◌}
 use native.Mathlib.Omega.{arith}
-use mathlib.Core.Path.{◌≡◌, refl, sym}
+use mathlib.Core.Path.{◌≡◌, sym}
 use mathlib.Core.List.{List}
 use lib.ListN.{length, set, replicate, length-replicate, get_or-replicate}
 use lib.Seq.{paste}
-use Rattle.image.proofs.Pastes.{Pasted, begun, again, ended}
+use Rattle.image.proofs.Pastes.{begun, again, ended}
 use Rattle.image.proofs.copies.zeroed.Goals as goal
 
 one : (m : List ℕ) (at n : ℕ) → n ≡ 1 → at + n ≤ length m → set m at 0 ≡ paste m at (replicate n 0) n

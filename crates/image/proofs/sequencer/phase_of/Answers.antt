@@ -1,7 +1,6 @@
 -- Each arm computes the table at its key; the rest is past the table.
 use mathlib.Core.Path.{◌≡◌, refl}
 use Prim.Native.Nat.{ℕ}
-use borrow.Author.Rules.{rules}
 use Rattle.rules.specs.declared.chip.Phase.TheVariants.{Idle}
 use Rattle.laws.proofs.Tables.{in_rest}
 use Rattle.image.specs.Image.{phase_of}

@@ -1,6 +1,4 @@
-use mathlib.Core.Path.{◌≡◌, refl}
 use native.Mathlib.Omega.{arith}
-use borrow.Author.Rules.{rules}
 use Rattle.laws.proofs.Bits.{one_below}
 use Rattle.image.proofs.ReadBack.{phase_below}
 use Rattle.image.proofs.sequencer.sequencer_byte.Goals as goal

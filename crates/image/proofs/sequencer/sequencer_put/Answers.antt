@@ -1,6 +1,5 @@
-use mathlib.Core.Path.{◌≡◌, ◌∙◌}
+use mathlib.Core.Path.{◌∙◌}
 use lib.ListN.{set}
-use borrow.Author.Rules.{rules}
 use Rattle.rules.specs.Changed.{with_sequencer}
 use Rattle.rules.specs.Counter.{counter_byte}
 use Rattle.image.specs.Layout.{selection_latches_place, selid_place, sequencer_place, ticks_high_place, ticks_low_place, ticks_middle_place}

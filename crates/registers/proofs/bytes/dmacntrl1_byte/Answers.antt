@@ -1,4 +1,4 @@
-use Rattle.std.proofs.Common.{◌≡◌, ℕ, ◌+◌, ◌*◌, ◌%◌, ◌<◌, Bool, add_assoc, arith, rules}
+use Rattle.std.proofs.Common.{◌≡◌, ℕ, ◌+◌, ◌*◌, ◌%◌, ◌<◌, Bool, add_assoc, arith}
 use lib.Bits.{bit_or}
 use mir.Val.{bool_byte}
 use Rattle.rules.specs.Numbers.{one}

@@ -1,5 +1,5 @@
-use mathlib.Core.Path.{◌≡◌, sym, ◌∙◌}
-use Rattle.stack.proofs.Tidied.{tidied_byte, tidied_read, tidied_written, tidied_pointed}
+use mathlib.Core.Path.{sym, ◌∙◌}
+use Rattle.stack.proofs.Tidied.{tidied_pointed}
 use Rattle.stack.proofs.lent.write_dmacntrl1.Goals as goal
 
 pub returns : goal.returns
