@@ -55,7 +55,7 @@ module _ {m : List ℕ} (g : IsImage m) where
   word_write_tests w = record { code = accesses.word_written_lem d (get_or m host_count_place 0) held_fits w ∙ code_at_is (WordWrite w) }
 
   pub word_read_tests : Tests (state_at m) WordRead (shut_to d true true) false (ltb (get_or m host_count_place 0) 2)
-  word_read_tests = record { code = accesses.word_read d (get_or m host_count_place 0) held_fits ∙ code_at_is WordRead }
+  word_read_tests = record { code = accesses.word_read_lem d (get_or m host_count_place 0) held_fits ∙ code_at_is WordRead }
 
 module _ {s : State} {e : Event} {shut full short closed : Bool} (t : Tests s e shut full short) (c : closed ≡ shut) where
   pub is_shut : closed ≡ true → access_code s e ≡ Shut

@@ -15,8 +15,7 @@ put_counts-requires c = counts_fit_lem c.args.c c.requires
 
 pub returns : goal.returns
 returns c =
-    let s = c.before.before.before.before.before.before.before.before.before.before.before.before.before.before.before.before.before.before.before.before.before.before.before in
-    let x = s.args.c in
+    let x = c.args.c in
     let host = c.put_host.ensures in
     let stack = c.put_stack.ensures in
     let scsi = c.put_scsi.ensures in
@@ -26,9 +25,9 @@ returns c =
     let flags = c.put_flags.ensures in
     let registers = c.put_registers.ensures in
     let image : c.put_host.new.m ≡ image_of (view x) =
-    all_stored x s.requires s.args.m.now registers.0 flags.0 numbers.0 sequencer.0 counts scsi stack host
+    all_stored x c.requires c.args.m.now registers.0 flags.0 numbers.0 sequencer.0 counts scsi stack host
     in
     let bytes : InBytes (view x) =
-    in_bytes x s.requires registers.1 flags.1 numbers.1 sequencer.1 scsi.bytes stack.bytes host.bytes
+    in_bytes x c.requires registers.1 flags.1 numbers.1 sequencer.1 scsi.bytes stack.bytes host.bytes
     in
-    record { packed = image; sound = subst IsImage (sym image) (is_image (view x) s.requires.range bytes) }
+    record { packed = image; sound = subst IsImage (sym image) (is_image (view x) c.requires.range bytes) }

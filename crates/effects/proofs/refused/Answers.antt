@@ -5,5 +5,4 @@ use Rattle.effects.proofs.refused.Goals as goal
 
 pub returns : goal.returns
 returns c =
-    let valued = c.before in
-    c.IsRefused-as.ensures ∙ ap (refused_as valued.args.code) valued.refused_value.ensures
+    c.refused_as.ensures ∙ ap (refused_as c.args.code) c.refused_value.ensures

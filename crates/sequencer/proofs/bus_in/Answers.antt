@@ -17,17 +17,16 @@ use Rattle.sequencer.proofs.bus_in.Goals as goal
 pub returns-then-rests-ticks : goal.returns-then-rests-ticks
 unfolding bus_since five_in_order
 returns-then-rests-ticks c =
-    let first = c.before.before in
-    let same = first.before in
-    let rest = same.before in
-    let start = rest.before in
-    let a = start.args in
+    let a = c.args in
     let m = a.m.now in
     let s = state_at m in
-    let r = rest.is_resting-rests.result in
+    let r = c.is_resting-rests.result in
     let z = eqb a.ticks 0 in
-    let both = left_true (r && z) same.is_same.result first.if-rests-ticks.true in
-    let seen = same_bytes_lem m a.x (sym same.is_same.ensures ∙ right_true (r && z) same.is_same.result first.if-rests-ticks.true) in
+    let both = left_true (r && z) c.is_same.result c.if-rests-ticks.true in
+    let seen = same_bytes_lem m a.x (sym c.is_same.ensures ∙ right_true (r && z) c.is_same.result c.if-rests-ticks.true) in
     let none = eqb-true a.ticks 0 (right_true r z both) in
-    let rests = sym rest.is_resting-rests.ensures ∙ left_true r z both in record { value = still_since m ∙ ap (λ (x : Seen). beyond_since x s) seen; m_after = c.still_in.ensures ∙ (λ i. image_of (five_in_order (last_of (seen i)) (sym none i) s))
-          ∙ ap (λ (n : State). image_of (after_phase_changes (last_of a.x) n)) (sym (rests_four m a.ticks rests (last_of a.x) s.quiet)) }
+    let rests = sym c.is_resting-rests.ensures ∙ left_true r z both in record {
+      value = still_since m ∙ ap (λ (x : Seen). beyond_since x s) seen;
+      m_after = c.still_in.ensures ∙ (λ i. image_of (five_in_order (last_of (seen i)) (sym none i) s))
+          ∙ ap (λ (n : State). image_of (after_phase_changes (last_of a.x) n)) (sym (rests_four m a.ticks rests (last_of a.x) s.quiet));
+    }

@@ -8,19 +8,16 @@ use Rattle.sequencer.proofs.is_resting.Goals as goal
 
 pub returns-then-is_dormant : goal.returns-then-is_dormant
 returns-then-is_dormant c =
-    let looked = c.before in
-    let a = looked.args in
-    λ i. (sym c.if-is_dormant.true ∙ looked.is_dormant.ensures) i || (eqb a.ticks 0 && still a.m.now)
+    let a = c.args in
+    λ i. (sym c.if-is_dormant.true ∙ c.is_dormant.ensures) i || (eqb a.ticks 0 && still a.m.now)
 
 pub returns-then-ticks-eq0 : goal.returns-then-ticks-eq0
 returns-then-ticks-eq0 c =
-    let left = c.before.before in
     λ i.
-    (sym left.if-is_dormant.false ∙ left.is_dormant.ensures) i || (sym (eq-eqb _ _ c.if-ticks-eq0.true) i && c.is_still.ensures i)
+    (sym c.if-is_dormant.false ∙ c.is_dormant.ensures) i || (sym (eq-eqb _ _ c.if-ticks-eq0.true) i && c.is_still.ensures i)
 
 pub returns-else-ticks-eq0 : goal.returns-else-ticks-eq0
 returns-else-ticks-eq0 c =
-    let left = c.before in
-    let a = left.args in
+    let a = c.args in
     λ i.
-    (sym left.if-is_dormant.false ∙ left.is_dormant.ensures) i || (sym (ne_eqb _ _ c.if-ticks-eq0.false) i && still a.m.now)
+    (sym c.if-is_dormant.false ∙ c.is_dormant.ensures) i || (sym (ne_eqb _ _ c.if-ticks-eq0.false) i && still a.m.now)

@@ -17,9 +17,4 @@ by_parts s e f g h i = cc
 pub returns : goal.returns
 unfolding state_at
 returns c =
-    let r = c.before.before in
-    let y = r.before in
-    let o = y.before in
-    let e = o.before in
-    let p = e.before in
-    by_parts (state_at p.args.m.now) p.path-way.ensures e.enabled-able.ensures o.write-out.ensures y.synchronous-kind.ensures r.req_seen-asked.ensures
+    by_parts (state_at c.args.m.now) c.path-way.ensures c.enabled-able.ensures c.write-out.ensures c.synchronous-kind.ensures c.req_seen-asked.ensures

@@ -21,14 +21,12 @@ by_tests s a b d e f g = rw (e, f, g) (nested s.registers.sxfrctl0.scsien (path 
 pub returns-then-scsien : goal.returns-then-scsien
 unfolding state_at
 returns-then-scsien c =
-    let o = c.before.before.before in
-    by_tests (state_at o.args.m.now) true true c.matched.result (sym c.if-scsien.true ∙ c.scsien.ensures) (sym o.if-path.true ∙ o.path.ensures) c.matched.ensures
+    by_tests (state_at c.args.m.now) true true c.matched.result (sym c.if-scsien.true ∙ c.scsien.ensures) (sym c.if-path.true ∙ c.path.ensures) c.matched.ensures
 
 pub returns-else-scsien : goal.returns-else-scsien
 unfolding state_at
 returns-else-scsien c =
-    let o = c.before.before in
-    by_tests (state_at o.args.m.now) false true _ (sym c.if-scsien.false ∙ c.scsien.ensures) (sym o.if-path.true ∙ o.path.ensures) refl
+    by_tests (state_at c.args.m.now) false true _ (sym c.if-scsien.false ∙ c.scsien.ensures) (sym c.if-path.true ∙ c.path.ensures) refl
 
 pub returns-else-path : goal.returns-else-path
 unfolding state_at

@@ -4,8 +4,5 @@ use Rattle.settling.proofs.moving.Goals as goal
 
 pub returns : goal.returns
 returns c =
-    let w = c.before in
-    let k = w.before.before in
-    let a = k.before in
     rw c.none-sent.ensures
-    (moves_settle a.args.m.now a.requires.image k.conditions_of-c.result k.conditions_of-c.ensures w.moved-moves.new.m w.moved-moves.result w.moved-moves.ensures a.requires.m_value)
+    (moves_settle c.args.m.now c.requires.image c.conditions_of-c.result c.conditions_of-c.ensures c.moved-moves.new.m c.moved-moves.result c.moved-moves.ensures c.requires.m_value)

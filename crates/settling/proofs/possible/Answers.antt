@@ -16,17 +16,12 @@ by_tests s y r a e f g = rw (e, f, g)
 pub returns-then-synchronous : goal.returns-then-synchronous
 unfolding state_at
 returns-then-synchronous c =
-    let o = c.before.before in
-    by_tests (state_at o.args.m.now) true _ _ (sym o.if-synchronous.true ∙ o.synchronous.ensures) refl refl
+    by_tests (state_at c.args.m.now) true _ _ (sym c.if-synchronous.true ∙ c.synchronous.ensures) refl refl
 
 pub returns-then-req_seen : goal.returns-then-req_seen
 returns-then-req_seen c =
-    let r = c.before.before in
-    let o = r.before in
-    by_tests (state_at o.args.m.now) false true c.automatic_ack.result (sym o.if-synchronous.false ∙ o.synchronous.ensures) (sym c.if-req_seen.true ∙ r.req_seen.ensures) c.automatic_ack.ensures
+    by_tests (state_at c.args.m.now) false true c.automatic_ack.result (sym c.if-synchronous.false ∙ c.synchronous.ensures) (sym c.if-req_seen.true ∙ c.req_seen.ensures) c.automatic_ack.ensures
 
 pub returns-else-req_seen : goal.returns-else-req_seen
 returns-else-req_seen c =
-    let r = c.before in
-    let o = r.before in
-    by_tests (state_at o.args.m.now) false false _ (sym o.if-synchronous.false ∙ o.synchronous.ensures) (sym c.if-req_seen.false ∙ r.req_seen.ensures) refl
+    by_tests (state_at c.args.m.now) false false _ (sym c.if-synchronous.false ∙ c.synchronous.ensures) (sym c.if-req_seen.false ∙ c.req_seen.ensures) refl

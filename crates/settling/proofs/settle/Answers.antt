@@ -8,30 +8,20 @@ use Rattle.settling.proofs.settle.Goals as goal
 pub returns-then-not-path : goal.returns-then-not-path
 unfolding state_at
 returns-then-not-path c =
-    let found = c.before.before in
-    let a = found.before in
-    rw c.none-sent.ensures (none_settles a.args.m.now a.requires (sym found.path.ensures ∙ c.if-not-path.true))
+    rw c.none-sent.ensures (none_settles c.args.m.now c.requires (sym c.path.ensures ∙ c.if-not-path.true))
 
 pub moving-requires : goal.moving-requires
 moving-requires c =
-    let p = c.before.before in
-    let a = p.before.before.before in
-    record { image = a.requires; m_value = sym p.possible.ensures ∙ c.if-not-possible.true }
+    record { image = c.requires; m_value = sym c.possible.ensures ∙ c.if-not-possible.true }
 
 pub shaking-requires : goal.shaking-requires
 shaking-requires c =
-    let w = c.before in
-    let k = w.before.before in
-    let a = k.before.before.before.before.before in
-    let g = begun a.args.m.now a.requires k.conditions_of-c.result k.conditions_of-c.ensures w.moved-moves.new.m w.moved-moves.result w.moved-moves.ensures in
-    record { image = g.between.image; m_value = g.still; made_bound = few a.args.m.now a.requires k.conditions_of-c.result k.conditions_of-c.ensures w.moved-moves.new.m w.moved-moves.result w.moved-moves.ensures }
+    let g = begun c.args.m.now c.requires c.conditions_of-c.result c.conditions_of-c.ensures c.moved-moves.new.m c.moved-moves.result c.moved-moves.ensures in
+    record { image = g.between.image; m_value = g.still; made_bound = few c.args.m.now c.requires c.conditions_of-c.result c.conditions_of-c.ensures c.moved-moves.new.m c.moved-moves.result c.moved-moves.ensures }
 
 pub returns : goal.returns
 returns c =
-    let w = c.before.before in
-    let k = w.before.before in
-    let a = k.before.before.before.before.before in
-    shakes_settle a.args.m.now a.requires k.conditions_of-c.result k.conditions_of-c.ensures w.moved-moves.new.m w.moved-moves.result w.moved-moves.ensures c.shaking.new.m c.shaking.result c.shaking.ensures.0 c.shaking.ensures.1
+    shakes_settle c.args.m.now c.requires c.conditions_of-c.result c.conditions_of-c.ensures c.moved-moves.new.m c.moved-moves.result c.moved-moves.ensures c.shaking.new.m c.shaking.result c.shaking.ensures.0 c.shaking.ensures.1
 
 pub returns-then-not-possible : goal.returns-then-not-possible
 returns-then-not-possible c = c.moving.ensures

@@ -14,15 +14,14 @@ use Rattle.stackhost.proofs.answered.Goals as goal
 pub returns : goal.returns
 unfolding call_done
 returns c =
-    let start = c.before.before.before.before.before.before.before.before.before.before.before.before in
-    let a = start.args in
+    let a = c.args in
     let bits = c.dmacntrl1_of-bits in
     let held = c.stack_in-before in
     let done = c.stack_accessed-after in
     let after : done.result ≡ stack_accessed a.access (dmacntrl1_of (get_or a.control.now 0 0)) (stack_in a.stack.now) =
     done.ensures ∙ (λ i. stack_accessed a.access (bits.ensures i) (held.ensures i)) in
     (λ i.
-    stack_call (c.stack_kept.ensures i) (one_set a.control.now c.dmacntrl1_byte.result start.requires.1 i)
-    (one_set a.value.now done.result.value start.requires.2 i) 0)
+    stack_call (c.stack_kept.ensures i) (one_set a.control.now c.dmacntrl1_byte.result c.requires.1 i)
+    (one_set a.value.now done.result.value c.requires.2 i) 0)
     ∙ ap (λ (n : ℕ). stack_call (stack_bytes done.result.stack) (n ∷ []) (done.result.value ∷ []) 0) c.dmacntrl1_byte.ensures
     ∙ ap (λ (r : Accessed). stack_call (stack_bytes r.stack) (dmacntrl1_byte r.control 0 ∷ []) (r.value ∷ []) 0) after

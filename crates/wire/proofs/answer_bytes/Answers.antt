@@ -17,8 +17,7 @@ eight c = search rules
 pub returns : goal.returns
 unfolding answer_bytes
 returns c =
-    let start = c.before.before.before.before.before.before in
-    let a = start.args.a in
+    let a = c.args.a in
     let high : a.value / 256 % 256 ≡ a.value / 256 = search rules in
     rw (
       c.code_byte-first.ensures,
@@ -26,5 +25,5 @@ returns c =
       high,
       and_mask a.value 8,
       c.offset_byte-seventh.ensures,
-      elements_all 8 a.sent (eight start),
+      elements_all 8 a.sent (eight (goal.at.returns c).Start),
     )

@@ -12,10 +12,8 @@ use Rattle.writes.proofs.identity_turned.Goals as goal
 
 pub overflow_add-m : goal.overflow_add-m
 overflow_add-m c =
-    let a = c.before.before in
-    omega (arith, at_identity a.args.m.now a.requires)
+    omega (arith, at_identity c.args.m.now c.requires)
 
 pub returns : goal.returns
 returns c =
-    let a = c.before.before in
-    of_image (λ (m : List ℕ). set m identity_place ((get_or m identity_place 0 + 1) % 32)) (λ (s : State). with_identity ((s.identity + 1) % 32) s) identity_turned a.args.m.now a.requires
+    of_image (λ (m : List ℕ). set m identity_place ((get_or m identity_place 0 + 1) % 32)) (λ (s : State). with_identity ((s.identity + 1) % 32) s) identity_turned c.args.m.now c.requires

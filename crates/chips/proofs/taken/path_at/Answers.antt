@@ -10,12 +10,11 @@ use Rattle.chips.proofs.taken.path_at.Goals as goal
 pub returns : goal.returns
 unfolding path_of
 returns c =
-    let s = c.before.before.before.before.before.before.before.before.before.before.before.before.before.before.before.before in
-    let m = s.args.m.now in
+    let m = c.args.m.now in
     λ i.
     record {
-      host = record { bytes = (c.host_bytes-host_places.ensures ∙ host_held m s.requires) i; count = (c.count_of.ensures ∙ host_counted m s.requires) i };
-      scsi = record { bytes = (c.scsi_bytes-scsi_places.ensures ∙ scsi_held m s.requires) i; count = (c.count_of-2.ensures ∙ scsi_counted m s.requires) i };
+      host = record { bytes = (c.host_bytes-host_places.ensures ∙ host_held m c.requires) i; count = (c.count_of.ensures ∙ host_counted m c.requires) i };
+      scsi = record { bytes = (c.scsi_bytes-scsi_places.ensures ∙ scsi_held m c.requires) i; count = (c.count_of-2.ensures ∙ scsi_counted m c.requires) i };
       counter = c.number_of.ensures i;
       offset = get_or m offset_place 0;
       ack = eqb (get_or m ack_place 0) 1;

@@ -11,8 +11,7 @@ use Rattle.datapath.proofs.Places.{pasted_long}
 use Rattle.datapath.proofs.copies.moved_down.Goals as goal
 
 pub zeroed-requires : goal.zeroed-requires
-zeroed-requires c =
-    let a = c.before.before.before in record { m_len = pasted_long a.args.m.now c.copied.new.m a.args.at (drop (a.args.at + a.args.k) a.args.m.now) (a.args.n - a.args.k) c.copied.ensures a.requires.m_len (omega arith) (simp length-drop (omega arith)); n_bound = omega arith }
+zeroed-requires c = record { m_len = pasted_long c.args.m.now c.copied.new.m c.args.at (drop (c.args.at + c.args.k) c.args.m.now) (c.args.n - c.args.k) c.copied.ensures c.requires.m_len (omega arith) (simp length-drop (omega arith)); n_bound = omega arith }
 
 pub returns : goal.returns
 unfolding lowered

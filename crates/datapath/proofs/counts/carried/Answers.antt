@@ -8,8 +8,6 @@ use Rattle.datapath.proofs.counts.carried.Goals as goal
 
 pub returns : goal.returns
 returns c =
-    let stepped = c.before.before in
-    let start = stepped.before.before in
-    let e = stepped.counter_step-stepped.ensures ∙ ap (counter_step start.args.direction) stepped.number_of.ensures in
-    let s = state_at start.args.m.now in
+    let e = c.counter_step-stepped.ensures ∙ ap (counter_step c.args.direction) c.number_of.ensures in
+    let s = state_at c.args.m.now in
     record { value = ap (λ (x : CounterStep). x.passed) e; m_after = c.number_stored.ensures ∙ ap (λ (x : CounterStep). image_of (with_counter x.value s)) e }

@@ -8,9 +8,7 @@ use Rattle.datapath.proofs.counts.carried_by.Goals as goal
 
 pub returns : goal.returns
 returns c =
-    let stepped = c.before.before in
-    let start = stepped.before.before in
-    let a = start.args in
-    let e = stepped.counter_steps-steps.ensures ∙ ap (counter_steps a.direction a.n) stepped.number_of.ensures in
-    let s = state_at start.args.m.now in
+    let a = c.args in
+    let e = c.counter_steps-steps.ensures ∙ ap (counter_steps a.direction a.n) c.number_of.ensures in
+    let s = state_at c.args.m.now in
     record { value = ap (λ (x : CounterStep). x.passed) e; m_after = c.number_stored.ensures ∙ ap (λ (x : CounterStep). image_of (with_counter x.value s)) e }

@@ -6,5 +6,4 @@ use Rattle.datapath.proofs.counts.number_of.Goals as goal
 
 pub returns : goal.returns
 returns c =
-    let start = c.before.before.before.before.before in
-    c.joined.ensures ∙ number _ start.requires.packed (placed_at start.args.m.now start.requires)
+    c.joined.ensures ∙ number _ c.requires.packed (placed_at c.args.m.now c.requires)

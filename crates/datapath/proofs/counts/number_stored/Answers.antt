@@ -4,6 +4,5 @@ use Rattle.datapath.proofs.counts.number_stored.Goals as goal
 
 pub returns : goal.returns
 returns c =
-    let start = c.before.before.before in
-    number_laid _ start.requires.packed start.args.n
+    number_laid _ c.requires.packed c.args.n
     c.counter_byte-low.ensures c.counter_byte-middle.ensures c.counter_byte-high.ensures

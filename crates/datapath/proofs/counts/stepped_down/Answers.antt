@@ -5,5 +5,4 @@ use Rattle.datapath.proofs.counts.stepped_down.Goals as goal
 
 pub returns-then-low-gt1 : goal.returns-then-low-gt1
 returns-then-low-gt1 c =
-    let start = c.before.before.before in
-    let both = low_down _ start.requires.packed (placed_at start.args.m.now start.requires) c.if-low-gt1.true in record { value = both.0; m_after = both.1 }
+    let both = low_down _ c.requires.packed (placed_at c.args.m.now c.requires) c.if-low-gt1.true in record { value = both.0; m_after = both.1 }

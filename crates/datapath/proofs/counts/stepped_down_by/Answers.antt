@@ -6,5 +6,4 @@ use Rattle.datapath.proofs.counts.stepped_down_by.Goals as goal
 
 pub returns-then-low-n : goal.returns-then-low-n
 returns-then-low-n c =
-    let start = c.before.before.before in
-    let both = low_down_by _ start.requires.packed (placed_at start.args.m.now start.requires) start.args.n (omega (arith, c.if-low-n.true)) in record { value = both.0; m_after = both.1 }
+    let both = low_down_by _ c.requires.packed (placed_at c.args.m.now c.requires) c.args.n (omega (arith, c.if-low-n.true)) in record { value = both.0; m_after = both.1 }

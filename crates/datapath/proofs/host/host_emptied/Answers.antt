@@ -13,7 +13,5 @@ host_popped-requires c = record { image = c.requires; k_bound = omega (arith, c.
 
 pub returns : goal.returns
 returns c =
-    let w = c.before.before in
-    let a = w.before.before.before in
-    let m = a.args.m.now in
-    c.host_popped.ensures ∙ ap (λ (l : List ℕ). image_of (with_host l (state_at m))) (none_left (placed_at m a.requires) a.requires.packed w.wide-n.result w.wide-n.ensures)
+    let m = c.args.m.now in
+    c.host_popped.ensures ∙ ap (λ (l : List ℕ). image_of (with_host l (state_at m))) (none_left (placed_at m c.requires) c.requires.packed c.wide-n.result c.wide-n.ensures)

@@ -7,6 +7,5 @@ use Rattle.datapath.proofs.host.host_pushed.Goals as goal
 
 pub returns : goal.returns
 returns c =
-    let a = c.before.before in
-    let m = a.args.m.now in
-    c.push.ensures ∙ host_one_more (state_at m) a.requires.image.packed (placed_at m a.requires.image) a.args.b a.requires.host_count_place_bound
+    let m = c.args.m.now in
+    c.push.ensures ∙ host_one_more (state_at m) c.requires.image.packed (placed_at m c.requires.image) c.args.b c.requires.host_count_place_bound

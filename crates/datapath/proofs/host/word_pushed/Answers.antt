@@ -34,17 +34,15 @@ push-requires c = omega (arith, c.requires.host_count_place_bound)
 
 pub push-requires-2 : goal.push-requires-2
 push-requires-2 c =
-    let a = c.before.before.before in
-    room_left (placed_at a.args.m.now a.requires.image) a.requires.image.packed (a.args.word % 256) a.requires.host_count_place_bound c.push.ensures
+    room_left (placed_at c.args.m.now c.requires.image) c.requires.image.packed (c.args.word % 256) c.requires.host_count_place_bound c.push.ensures
 
 pub returns : goal.returns
 returns c =
-    let a = c.before.before.before.before in
-    let w = a.args.word in
-    let s = state_at a.args.m.now in
-    let p = placed_at a.args.m.now a.requires.image in
-    let e = a.requires.image.packed in
-    let h = a.requires.host_count_place_bound in
+    let w = c.args.word in
+    let s = state_at c.args.m.now in
+    let p = placed_at c.args.m.now c.requires.image in
+    let e = c.requires.image.packed in
+    let h = c.requires.host_count_place_bound in
     let f = c.push.ensures in
     c.push-2.ensures
     ∙ host_one_more (with_host (s.transfer.host ++ (w % 256 ∷ [])) s) (low_first p e (w % 256) h f) (low_placed p e (w % 256) h f) (w / 256) (room_left p e (w % 256) h f)

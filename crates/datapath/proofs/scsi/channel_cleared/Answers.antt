@@ -14,7 +14,5 @@ scsi_popped-requires c = record { image = c.requires; k_bound = omega (arith, c.
 
 pub returns : goal.returns
 returns c =
-    let w = c.before.before in
-    let a = w.before.before in
-    let m = a.args.m.now in
-    no_offset _ (c.scsi_popped.ensures ∙ ap (λ (l : List ℕ). image_of (with_scsi l (state_at m))) (no_scsi (state_at m) a.requires.packed (placed_at m a.requires) w.wide-n.result w.wide-n.ensures))
+    let m = c.args.m.now in
+    no_offset _ (c.scsi_popped.ensures ∙ ap (λ (l : List ℕ). image_of (with_scsi l (state_at m))) (no_scsi (state_at m) c.requires.packed (placed_at m c.requires) c.wide-n.result c.wide-n.ensures))

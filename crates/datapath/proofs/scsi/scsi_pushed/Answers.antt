@@ -10,10 +10,9 @@ use Rattle.datapath.proofs.scsi.scsi_pushed.Goals as goal
 
 pub returns : goal.returns
 returns c =
-    let a = c.before.before in
-    let m = a.args.m.now in
-    let p = placed_at m a.requires.image in
-    c.byte_stored.ensures ∙ scsi_one_more (state_at m) a.requires.image.packed p (get_or m scsi_count_place 0) a.args.b (scsi_counted (state_at m) a.requires.image.packed p) a.requires.scsi_count_place_bound
+    let m = c.args.m.now in
+    let p = placed_at m c.requires.image in
+    c.byte_stored.ensures ∙ scsi_one_more (state_at m) c.requires.image.packed p (get_or m scsi_count_place 0) c.args.b (scsi_counted (state_at m) c.requires.image.packed p) c.requires.scsi_count_place_bound
 
 pub byte_stored-requires : goal.byte_stored-requires
 byte_stored-requires c = c.requires.scsi_count_place_bound

@@ -8,6 +8,4 @@ use Rattle.edges.proofs.after.freed_in.Goals as goal
 
 pub returns-then-free : goal.returns-then-free
 returns-then-free c =
-    let q = c.before.before in
-    let chosen = q.before in
-    rw chosen.if-free.true (ap (set chosen.args.m.now sequencer_place) (c.sequencer_byte-v.ensures ∙ ap sequencer_byte (c.freed.ensures ∙ ap selection_freed q.sequencer.ensures)))
+    rw c.if-free.true (ap (set c.args.m.now sequencer_place) (c.sequencer_byte-v.ensures ∙ ap sequencer_byte (c.freed.ensures ∙ ap selection_freed c.sequencer.ensures)))

@@ -5,5 +5,4 @@ use Rattle.edges.proofs.after.offset_in.Goals as goal
 pub returns : goal.returns
 unfolding state_at
 returns c =
-    let looked = c.before in
-    rw (c.ack_b-ack.ensures, looked.automatic_ack.ensures, looked.offset_b-offset.ensures)
+    rw (c.ack_b-ack.ensures, c.automatic_ack.ensures, c.offset_b-offset.ensures)

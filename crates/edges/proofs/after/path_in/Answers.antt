@@ -7,23 +7,18 @@ use Rattle.edges.proofs.after.path_in.Goals as goal
 
 pub scsi_in-requires : goal.scsi_in-requires
 scsi_in-requires c =
-    let start = c.before in
-    place_of start.args.byte start.requires.image start.requires.room
+    place_of c.args.byte c.requires.image c.requires.room
 
 pub offset_in-requires : goal.offset_in-requires
 offset_in-requires c =
-    let q = c.before.before.before.before in
-    let start = q.before.before in
-    let a = start.args in
-    λ h. room_after a.g.stored a.byte (state_at a.m.now) (path_stored a.byte start.requires.image start.requires.room q.scsi_in.ensures) (start.requires.room.within h)
+    let a = c.args in
+    λ h. room_after a.g.stored a.byte (state_at a.m.now) (path_stored a.byte c.requires.image c.requires.room c.scsi_in.ensures) (c.requires.room.within h)
 
 pub returns : goal.returns
 returns c =
-    let q = c.before.before.before.before.before in
-    let start = q.before.before in
-    let g = start.args.g in
-    let b = start.args.byte in
-    let s = state_at start.args.m.now in
+    let g = c.args.g in
+    let b = c.args.byte in
+    let s = state_at c.args.m.now in
     offsets_placed (g.rstrises || g.free) g.within (g.reqfalls || g.rstrises || g.free)
-    (stored_b g.stored b s) (path_stored b start.requires.image start.requires.room q.scsi_in.ensures) c.offset_in.ensures
+    (stored_b g.stored b s) (path_stored b c.requires.image c.requires.room c.scsi_in.ensures) c.offset_in.ensures
     ∙ path_parts g b s

@@ -5,6 +5,4 @@ use Rattle.edges.proofs.after.registers_stored.Goals as goal
 pub returns : goal.returns
 unfolding state_at
 returns c =
-    let control = c.before.before in
-    let sequence = control.before.before in
-    rw (c.scsisig_after-g.ensures, sequence.enautoatnp.ensures, control.sxfrctl0_after-x.ensures, sequence.scsiseq_after-q.ensures)
+    rw (c.scsisig_after-g.ensures, c.enautoatnp.ensures, c.sxfrctl0_after-x.ensures, c.scsiseq_after-q.ensures)

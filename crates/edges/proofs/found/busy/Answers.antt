@@ -5,14 +5,10 @@ use Rattle.edges.proofs.found.busy.Goals as goal
 
 pub returns-then-reset : goal.returns-then-reset
 returns-then-reset c =
-    let bsy = c.before.before in
-    let phase = bsy.before.before in
-    let chosen = phase.before in
-    let m = chosen.args.m.now in
-    rw (chosen.if-reset.true, c.drives_sel.ensures, c.sel_driven_by_others.ensures, bsy.drives_bsy.ensures, bsy.bsy_driven_by_others.ensures, phase.phase-p.ensures)
+    let m = c.args.m.now in
+    rw (c.if-reset.true, c.drives_sel.ensures, c.sel_driven_by_others.ensures, c.drives_bsy.ensures, c.bsy_driven_by_others.ensures, c.phase-p.ensures)
     (busy_reset (state_at m))
 
 pub returns-else-reset : goal.returns-else-reset
 returns-else-reset c =
-    let start = c.before.before.before in
-    rw (c.if-reset.false, c.sel_seen.ensures, c.bsy_seen.ensures) (busy_unreset (state_at start.args.m.now))
+    rw (c.if-reset.false, c.sel_seen.ensures, c.bsy_seen.ensures) (busy_unreset (state_at c.args.m.now))

@@ -6,9 +6,7 @@ use Rattle.edges.proofs.found.checked.Goals as goal
 
 pub returns-then-io_seen : goal.returns-then-io_seen
 returns-then-io_seen c =
-    let inbound = c.before in
-    let asked = inbound.before.before in
-    first_left _ _ _ c.connected.ensures (sym inbound.io_seen.ensures ∙ inbound.if-io_seen.true) (sym asked.enspchk.ensures ∙ asked.if-enspchk.true)
+    first_left _ _ _ c.connected.ensures (sym c.io_seen.ensures ∙ c.if-io_seen.true) (sym c.enspchk.ensures ∙ c.if-enspchk.true)
 
 pub returns-else-io_seen : goal.returns-else-io_seen
 returns-else-io_seen c = rw (sym c.io_seen.ensures ∙ c.if-io_seen.false, and-false)

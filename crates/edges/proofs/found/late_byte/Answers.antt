@@ -5,5 +5,4 @@ use Rattle.edges.proofs.found.late_byte.Goals as goal
 pub returns-then-within : goal.returns-then-within
 unfolding state_at
 returns-then-within c =
-    let seen = c.before.before.before in
-    rw (seen.if-within.true, seen.io_seen.ensures)
+    rw (c.if-within.true, c.io_seen.ensures)

@@ -10,5 +10,4 @@ returns-then-busy c = rw (← c.busy.ensures, c.if-busy.true)
 pub returns-else-busy : goal.returns-else-busy
 unfolding quiet_after state_at
 returns-else-busy c =
-    let idle = c.before.before.before in
-    rw (← idle.busy.ensures, idle.if-busy.false) c.added.ensures
+    rw (← c.busy.ensures, c.if-busy.false) c.added.ensures

@@ -9,10 +9,8 @@ use Rattle.edges.proofs.found.synchronous_req.Goals as goal
 pub returns-then-path : goal.returns-then-path
 unfolding state_at
 returns-then-path c =
-    let on = c.before in
-    let steady = on.before.before in
-    rw steady.if-rises.true
-    (first_left _ _ _ c.matched.ensures (sym on.path.ensures ∙ on.if-path.true) (sym steady.synchronous.ensures ∙ steady.if-synchronous.true))
+    rw c.if-rises.true
+    (first_left _ _ _ c.matched.ensures (sym c.path.ensures ∙ c.if-path.true) (sym c.synchronous.ensures ∙ c.if-synchronous.true))
 
 pub returns-else-path : goal.returns-else-path
 unfolding state_at

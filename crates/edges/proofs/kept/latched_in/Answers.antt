@@ -11,6 +11,5 @@ use Rattle.edges.proofs.kept.latched_in.Goals as goal
 
 pub returns : goal.returns
 returns c =
-    let unpacked = c.before in
-    let a = unpacked.args in
-    ap (λ (x : ℕ). set a.m.now latches_place x) (c.latches_byte-v.ensures ∙ ap (λ (x : Latches). latches_byte (error_or true x)) unpacked.latches_of-k.ensures)
+    let a = c.args in
+    ap (λ (x : ℕ). set a.m.now latches_place x) (c.latches_byte-v.ensures ∙ ap (λ (x : Latches). latches_byte (error_or true x)) c.latches_of-k.ensures)

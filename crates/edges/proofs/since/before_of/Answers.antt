@@ -1,7 +1,8 @@
-use borrow.Author.Rules.{rules}
 use Rattle.edges.specs.Since.{rst_of, req_of, mismatched_of}
 use Rattle.edges.proofs.since.before_of.Goals as goal
 
 pub returns : goal.returns
 unfolding rst_of req_of mismatched_of
-returns c = let both = c.last_seen.ensures in record { rst_value = both.0; req_value = both.1.0; mismatched_value = both.1.1 }
+returns c =
+    let seen = c.last_seen.ensures in
+    record { rst_value = seen.rst_value; req_value = seen.req_value; mismatched_value = seen.mismatched_value }

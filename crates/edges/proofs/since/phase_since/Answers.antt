@@ -6,6 +6,5 @@ use Rattle.edges.proofs.since.phase_since.Goals as goal
 
 pub returns : goal.returns
 returns c =
-    let read = c.before.before in
-    let a = read.args in
-    c.phase_in.ensures ∙ ap image_of (phase_as_seen a.x (state_at a.m.now) read.before_of-was.ensures.mismatched_value)
+    let a = c.args in
+    c.phase_in.ensures ∙ ap image_of (phase_as_seen a.x (state_at a.m.now) c.before_of-was.ensures.mismatched_value)

@@ -5,12 +5,8 @@ use Rattle.edges.proofs.since.still_in.Goals as goal
 
 pub returns-then-busy : goal.returns-then-busy
 returns-then-busy c =
-    let looked = c.before in
-    let start = looked.before in
-    seen_quieted start.args.m.now start.requires (sym looked.busy.ensures ∙ c.if-busy.true)
+    seen_quieted c.args.m.now c.requires (sym c.busy.ensures ∙ c.if-busy.true)
 
 pub returns-else-busy : goal.returns-else-busy
 returns-else-busy c =
-    let looked = c.before in
-    let start = looked.before in
-    seen_unchanged start.args.m.now start.requires (sym looked.busy.ensures ∙ c.if-busy.false)
+    seen_unchanged c.args.m.now c.requires (sym c.busy.ensures ∙ c.if-busy.false)

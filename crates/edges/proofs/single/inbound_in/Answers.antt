@@ -13,40 +13,27 @@ use Rattle.edges.proofs.single.inbound_in.Goals as goal
 
 pub returns-then-not-io_seen : goal.returns-then-not-io_seen
 returns-then-not-io_seen c =
-    let looked = c.before in
-    let start = looked.before in
-    start.requires.m_value ∙ ap image_of (sym (inbound_none (state_at start.args.m.now) (sym looked.io_seen.ensures ∙ c.if-not-io_seen.true)))
+    c.requires.m_value ∙ ap image_of (sym (inbound_none (state_at c.args.m.now) (sym c.io_seen.ensures ∙ c.if-not-io_seen.true)))
 
 pub byte_stored-requires : goal.byte_stored-requires
 byte_stored-requires c =
-    let seen = c.before.before.before.before.before in
-    let looked = seen.before in
-    looked.requires.scsi_count_place_bound (sym looked.io_seen.ensures ∙ seen.if-not-io_seen.false)
+    c.requires.scsi_count_place_bound (sym c.io_seen.ensures ∙ c.if-not-io_seen.false)
 
 pub returns-then-late : goal.returns-then-late
 unfolding state_at
 returns-then-late c =
-    let tested = c.before.before in
-    let stored = tested.before in
-    let seen = stored.before.before.before.before.before.before in
-    let looked = seen.before in
-    let start = looked.before in
-    let m = start.args.m.now in
-    let e = start.requires.m_value in
-    let io = sym looked.io_seen.ensures ∙ seen.if-not-io_seen.false in
+    let m = c.args.m.now in
+    let e = c.requires.m_value in
+    let io = sym c.io_seen.ensures ∙ c.if-not-io_seen.false in
     let t = stored_b true (get_or m data_place 0) (state_at m) in
-    status_placed (raised_b false false true) t (scsi_placed (get_or m data_place 0) (state_at m) (start.requires.scsi_count_place_bound io) e stored.byte_stored.ensures) c.raised_in.ensures
-    ∙ ap image_of (inbound_as (state_at m) io (sym tested.if-late.true ∙ late_at m (state_at m) e io) refl)
+    status_placed (raised_b false false true) t (scsi_placed (get_or m data_place 0) (state_at m) (c.requires.scsi_count_place_bound io) e c.byte_stored.ensures) c.raised_in.ensures
+    ∙ ap image_of (inbound_as (state_at m) io (sym c.if-late.true ∙ late_at m (state_at m) e io) refl)
 
 pub returns-else-late : goal.returns-else-late
 unfolding state_at
 returns-else-late c =
-    let stored = c.before in
-    let seen = stored.before.before.before.before.before.before in
-    let looked = seen.before in
-    let start = looked.before in
-    let m = start.args.m.now in
-    let e = start.requires.m_value in
-    let io = sym looked.io_seen.ensures ∙ seen.if-not-io_seen.false in
-    scsi_placed (get_or m data_place 0) (state_at m) (start.requires.scsi_count_place_bound io) e stored.byte_stored.ensures
+    let m = c.args.m.now in
+    let e = c.requires.m_value in
+    let io = sym c.io_seen.ensures ∙ c.if-not-io_seen.false in
+    scsi_placed (get_or m data_place 0) (state_at m) (c.requires.scsi_count_place_bound io) e c.byte_stored.ensures
     ∙ ap image_of (inbound_as (state_at m) io (sym c.if-late.false ∙ late_at m (state_at m) e io) refl)

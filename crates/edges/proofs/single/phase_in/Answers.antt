@@ -13,17 +13,12 @@ returns-then-was c = c.requires ∙ ap image_of (sym (phase_kept c.args.was _ c.
 
 pub returns-then-mismatched : goal.returns-then-mismatched
 returns-then-mismatched c =
-    let tested = c.before.before in
-    let first = tested.before.before in
-    let start = first.before in
-    let m = start.args.m.now in
-    status_placed (raised_b true false false) (state_at m) start.requires c.raised_in.ensures
-    ∙ ap image_of (phase_as start.args.was (state_at m) first.if-was.false (sym tested.if-mismatched.true ∙ tested.mismatched.ensures ∙ mismatched_at m (state_at m) start.requires))
+    let m = c.args.m.now in
+    status_placed (raised_b true false false) (state_at m) c.requires c.raised_in.ensures
+    ∙ ap image_of (phase_as c.args.was (state_at m) c.if-was.false (sym c.if-mismatched.true ∙ c.mismatched.ensures ∙ mismatched_at m (state_at m) c.requires))
 
 pub returns-else-mismatched : goal.returns-else-mismatched
 returns-else-mismatched c =
-    let first = c.before.before in
-    let start = first.before in
-    let m = start.args.m.now in
-    start.requires
-    ∙ ap image_of (phase_as start.args.was (state_at m) first.if-was.false (sym c.if-mismatched.false ∙ c.mismatched.ensures ∙ mismatched_at m (state_at m) start.requires))
+    let m = c.args.m.now in
+    c.requires
+    ∙ ap image_of (phase_as c.args.was (state_at m) c.if-was.false (sym c.if-mismatched.false ∙ c.mismatched.ensures ∙ mismatched_at m (state_at m) c.requires))

@@ -10,7 +10,6 @@ use Rattle.edges.proofs.single.raised_in.Goals as goal
 
 pub returns : goal.returns
 returns c =
-    let unpacked = c.before.before.before.before in
-    let a = unpacked.args in
+    let a = c.args in
     let part : Status → Status = raised_b a.phase a.req a.late in
-    ap (λ (x : ℕ). set a.m.now status_place x) (c.status_byte-v.ensures ∙ ap (λ (x : Status). status_byte (part x)) unpacked.status_of-t.ensures)
+    ap (λ (x : ℕ). set a.m.now status_place x) (c.status_byte-v.ensures ∙ ap (λ (x : Status). status_byte (part x)) c.status_of-t.ensures)

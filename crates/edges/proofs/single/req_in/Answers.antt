@@ -20,61 +20,47 @@ compared s was e f = ap (λ (x : Bool). beq x was) (sym e) ∙ f
 pub returns-then-req-was : goal.returns-then-req-was
 unfolding req_rises_from
 returns-then-req-was c =
-    let looked = c.before in
-    let start = looked.before in
-    let w = start.args.was in
-    let s = state_at start.args.m.now in
-    let same = compared s w looked.req_seen-req.ensures c.if-req-was.true in
+    let w = c.args.was in
+    let s = state_at c.args.m.now in
+    let same = compared s w c.req_seen-req.ensures c.if-req-was.true in
     let stays : req_rises_from w s ≡ false = rw (same_rises (req_seen s) w same) in
-    record { value = none_beyond w s stays; m_after = start.requires ∙ ap image_of (sym (req_kept w s stays (same_falls (req_seen s) w same))) }
+    record { value = none_beyond w s stays; m_after = c.requires ∙ ap image_of (sym (req_kept w s stays (same_falls (req_seen s) w same))) }
 
 pub returns-then-not-req : goal.returns-then-not-req
 unfolding req_rises_from
 returns-then-not-req c =
-    let looked = c.before.before in
-    let start = looked.before in
-    let w = start.args.was in
-    let m = start.args.m.now in
+    let w = c.args.was in
+    let m = c.args.m.now in
     let s = state_at m in
-    let off : req_seen s ≡ false = sym looked.req_seen-req.ensures ∙ c.if-not-req.true in
-    let on : w ≡ true = other_than (req_seen s) w (compared s w looked.req_seen-req.ensures c.if-req-was.false) ∙ ap not off in
+    let off : req_seen s ≡ false = sym c.req_seen-req.ensures ∙ c.if-not-req.true in
+    let on : w ≡ true = other_than (req_seen s) w (compared s w c.req_seen-req.ensures c.if-req-was.false) ∙ ap not off in
     let stays : req_rises_from w s ≡ false = rw off in
-    record { value = none_beyond w s stays; m_after = ack_placed m s start.requires ∙ ap image_of (req_fallen w s stays (rw (on, off))) }
+    record { value = none_beyond w s stays; m_after = ack_placed m s c.requires ∙ ap image_of (req_fallen w s stays (rw (on, off))) }
 
 pub returns-then-rst_seen : goal.returns-then-rst_seen
 unfolding req_rises_from
 returns-then-rst_seen c =
-    let tested = c.before.before in
-    let looked = tested.before.before in
-    let start = looked.before in
-    let w = start.args.was in
-    let s = state_at start.args.m.now in
-    let on : req_seen s ≡ true = sym looked.req_seen-req.ensures ∙ tested.if-not-req.false in
-    let off : w ≡ false = other_than (req_seen s) w (compared s w looked.req_seen-req.ensures tested.if-req-was.false) ∙ ap not on in
+    let w = c.args.was in
+    let s = state_at c.args.m.now in
+    let on : req_seen s ≡ true = sym c.req_seen-req.ensures ∙ c.if-not-req.false in
+    let off : w ≡ false = other_than (req_seen s) w (compared s w c.req_seen-req.ensures c.if-req-was.false) ∙ ap not on in
     let reset : rst_seen s ≡ true = sym c.rst_seen.ensures ∙ c.if-rst_seen.true in
     let stays : req_rises_from w s ≡ false = rw (reset, on, off) in
-    record { value = none_beyond w s stays; m_after = start.requires ∙ ap image_of (sym (req_kept w s stays (rw off))) }
+    record { value = none_beyond w s stays; m_after = c.requires ∙ ap image_of (sym (req_kept w s stays (rw off))) }
 
 pub risen-requires : goal.risen-requires
 risen-requires c =
-    let raised = c.before in
-    let start = raised.before.before.before.before.before.before.before in
-    let s = state_at start.args.m.now in
-    let e = status_placed (raised_b false true false) s start.requires raised.raised_in.ensures in
-    packed_as (init_b true s) e (status_again start.requires e)
+    let s = state_at c.args.m.now in
+    let e = status_placed (raised_b false true false) s c.requires c.raised_in.ensures in
+    packed_as (init_b true s) e (status_again c.requires e)
 
 pub returns : goal.returns
 unfolding req_rises_from
 returns c =
-    let raised = c.before.before in
-    let reset = raised.before.before in
-    let tested = reset.before.before in
-    let looked = tested.before.before in
-    let start = looked.before in
-    let w = start.args.was in
-    let s = state_at start.args.m.now in
-    let on : req_seen s ≡ true = sym looked.req_seen-req.ensures ∙ tested.if-not-req.false in
-    let off : w ≡ false = other_than (req_seen s) w (compared s w looked.req_seen-req.ensures tested.if-req-was.false) ∙ ap not on in
-    let none : rst_seen s ≡ false = sym reset.rst_seen.ensures ∙ reset.if-rst_seen.false in
+    let w = c.args.was in
+    let s = state_at c.args.m.now in
+    let on : req_seen s ≡ true = sym c.req_seen-req.ensures ∙ c.if-not-req.false in
+    let off : w ≡ false = other_than (req_seen s) w (compared s w c.req_seen-req.ensures c.if-req-was.false) ∙ ap not on in
+    let none : rst_seen s ≡ false = sym c.rst_seen.ensures ∙ c.if-rst_seen.false in
     let rises : req_rises_from w s ≡ true = rw (none, on, off) in
-    let again = status_again start.requires (status_placed (raised_b false true false) s start.requires raised.raised_in.ensures) in record { value = c.risen.ensures.value ∙ ap (λ (x : State). call_b x && beyond_limit x) again ∙ risen_beyond w s rises; m_after = c.risen.ensures.m_after ∙ ap (λ (x : State). image_of (risen_b (call_b x) x)) again ∙ ap image_of (req_risen_lem w s rises (rw off)) }
+    let again = status_again c.requires (status_placed (raised_b false true false) s c.requires c.raised_in.ensures) in record { value = c.risen.ensures.value ∙ ap (λ (x : State). call_b x && beyond_limit x) again ∙ risen_beyond w s rises; m_after = c.risen.ensures.m_after ∙ ap (λ (x : State). image_of (risen_b (call_b x) x)) again ∙ ap image_of (req_risen_lem w s rises (rw off)) }

@@ -14,44 +14,31 @@ use Rattle.edges.proofs.single.risen.Goals as goal
 pub returns-then-not-synchronous_req : goal.returns-then-not-synchronous_req
 unfolding state_at
 returns-then-not-synchronous_req c =
-    let asked = c.before in
-    let start = asked.before in
-    let s = state_at start.args.m.now in
-    let off : call_b s ≡ false = sym asked.synchronous_req.ensures ∙ c.if-not-synchronous_req.true in
-    record { value = rw off; m_after = start.requires ∙ ap image_of (sym (not_within (call_b s) s (rw off))) }
+    let s = state_at c.args.m.now in
+    let off : call_b s ≡ false = sym c.synchronous_req.ensures ∙ c.if-not-synchronous_req.true in
+    record { value = rw off; m_after = c.requires ∙ ap image_of (sym (not_within (call_b s) s (rw off))) }
 
 pub returns-then-beyond_limit : goal.returns-then-beyond_limit
 unfolding state_at
 returns-then-beyond_limit c =
-    let asked = c.before in
-    let called = asked.before in
-    let start = called.before.before in
-    let m = start.args.m.now in
+    let m = c.args.m.now in
     let s = state_at m in
-    let on : call_b s ≡ true = sym called.synchronous_req.ensures ∙ called.if-not-synchronous_req.false in
-    let past : beyond_limit s ≡ true = sym (beyond_at m start.requires asked.beyond_limit.ensures) ∙ c.if-beyond_limit.true in
-    record { value = rw (on, past); m_after = start.requires ∙ ap image_of (sym (not_within (call_b s) s (rw (on, past)))) }
+    let on : call_b s ≡ true = sym c.synchronous_req.ensures ∙ c.if-not-synchronous_req.false in
+    let past : beyond_limit s ≡ true = sym (beyond_at m c.requires c.beyond_limit.ensures) ∙ c.if-beyond_limit.true in
+    record { value = rw (on, past); m_after = c.requires ∙ ap image_of (sym (not_within (call_b s) s (rw (on, past)))) }
 
 pub inbound_in-requires : goal.inbound_in-requires
 inbound_in-requires c =
-    let tested = c.before.before.before in
-    let start = tested.before.before.before.before in
-    record { m_value = start.requires; scsi_count_place_bound = place_left start.args.m.now tested.beyond_limit.ensures tested.if-beyond_limit.false }
+    record { m_value = c.requires; scsi_count_place_bound = place_left c.args.m.now c.beyond_limit.ensures c.if-beyond_limit.false }
 
 pub overflow_add-m : goal.overflow_add-m
 overflow_add-m c =
-    let tested = c.before.before.before.before in
-    let start = tested.before.before.before.before in
-    omega (arith, count_left start.args.m.now tested.beyond_limit.ensures tested.if-beyond_limit.false)
+    omega (arith, count_left c.args.m.now c.beyond_limit.ensures c.if-beyond_limit.false)
 
 pub returns : goal.returns
 unfolding state_at
 returns c =
-    let tested = c.before.before.before in
-    let asked = tested.before.before in
-    let called = asked.before in
-    let start = called.before.before in
-    let m = start.args.m.now in
+    let m = c.args.m.now in
     let s = state_at m in
-    let on : call_b s ≡ true = sym called.synchronous_req.ensures ∙ called.if-not-synchronous_req.false in
-    let below : beyond_limit s ≡ false = sym (beyond_at m start.requires asked.beyond_limit.ensures) ∙ tested.if-beyond_limit.false in record { value = rw (below, and-false); m_after = offset_placed _ (inbound_b true s) refl c.inbound_in.ensures ∙ ap image_of (within_limit (call_b s) s (rw (on, below))) }
+    let on : call_b s ≡ true = sym c.synchronous_req.ensures ∙ c.if-not-synchronous_req.false in
+    let below : beyond_limit s ≡ false = sym (beyond_at m c.requires c.beyond_limit.ensures) ∙ c.if-beyond_limit.false in record { value = rw (below, and-false); m_after = offset_placed _ (inbound_b true s) refl c.inbound_in.ensures ∙ ap image_of (within_limit (call_b s) s (rw (on, below))) }

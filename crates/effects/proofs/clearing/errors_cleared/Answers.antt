@@ -7,6 +7,5 @@ use Rattle.effects.proofs.clearing.errors_cleared.Goals as goal
 
 pub returns : goal.returns
 returns c =
-    let a = c.before.before.before in
-    let i = flagged (start a.requires) false false (Write 0x0F a.args.value) c.status_written_in.ensures in
-    acts (leaves clrserr a.requires a.ranges.value.fits) i c.done_with.ensures
+    let i = flagged (start c.requires) false false (Write 0x0F c.args.value) c.status_written_in.ensures in
+    acts (leaves clrserr c.requires c.ranges.value.fits) i c.done_with.ensures

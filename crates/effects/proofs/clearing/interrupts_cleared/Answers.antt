@@ -14,33 +14,23 @@ sequencer_written_in-requires c = record { image = c.requires; written = refl }
 pub stored-requires : goal.stored-requires
 unfolding table written_at
 stored-requires c =
-    let a = c.before.before.before in
-    record { image = there (sequenced (leaves clrsint1 a.requires a.ranges.value.fits) (start a.requires) c.sequencer_written_in.ensures); written = refl }
+    record { image = there (sequenced (leaves clrsint1 c.requires c.ranges.value.fits) (start c.requires) c.sequencer_written_in.ensures); written = refl }
 
 pub status_written_in-requires : goal.status_written_in-requires
 status_written_in-requires c =
-    let x = c.before.before.before in
-    let a = x.before.before in
-    let l = leaves clrsint1 a.requires a.ranges.value.fits in
-    there (stored l (sequenced l (start a.requires) x.sequencer_written_in.ensures) refl c.stored.ensures)
+    let l = leaves clrsint1 c.requires c.ranges.value.fits in
+    there (stored l (sequenced l (start c.requires) c.sequencer_written_in.ensures) refl c.stored.ensures)
 
 pub latches_written_in-requires : goal.latches_written_in-requires
 latches_written_in-requires c =
-    let y = c.before.before.before in
-    let x = y.before.before in
-    let a = x.before.before in
-    let l = leaves clrsint1 a.requires a.ranges.value.fits in
-    let i = stored l (sequenced l (start a.requires) x.sequencer_written_in.ensures) refl y.stored.ensures in
-    there (flagged i false false (Write 0x0C a.args.value) c.status_written_in.ensures)
+    let l = leaves clrsint1 c.requires c.ranges.value.fits in
+    let i = stored l (sequenced l (start c.requires) c.sequencer_written_in.ensures) refl c.stored.ensures in
+    there (flagged i false false (Write 0x0C c.args.value) c.status_written_in.ensures)
 
 pub returns : goal.returns
 returns c =
-    let z = c.before.before.before in
-    let y = z.before.before in
-    let x = y.before.before in
-    let a = x.before.before in
-    let e = Write 0x0C a.args.value in
-    let l = leaves clrsint1 a.requires a.ranges.value.fits in
-    let i = stored l (sequenced l (start a.requires) x.sequencer_written_in.ensures) refl y.stored.ensures in
-    let j = flagged i false false e z.status_written_in.ensures in
+    let e = Write 0x0C c.args.value in
+    let l = leaves clrsint1 c.requires c.ranges.value.fits in
+    let i = stored l (sequenced l (start c.requires) c.sequencer_written_in.ensures) refl c.stored.ensures in
+    let j = flagged i false false e c.status_written_in.ensures in
     acts l (unlatched j e c.latches_written_in.ensures) c.done_with.ensures

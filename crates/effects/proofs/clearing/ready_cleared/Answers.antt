@@ -13,21 +13,15 @@ sequencer_written_in-requires c = record { image = c.requires; written = refl }
 
 pub status_kept_in-requires : goal.status_kept_in-requires
 status_kept_in-requires c =
-    let a = c.before.before.before in
-    there (sequenced (leaves clrsint0 a.requires a.ranges.value.fits) (start a.requires) c.sequencer_written_in.ensures)
+    there (sequenced (leaves clrsint0 c.requires c.ranges.value.fits) (start c.requires) c.sequencer_written_in.ensures)
 
 pub latches_written_in-requires : goal.latches_written_in-requires
 latches_written_in-requires c =
-    let x = c.before.before.before in
-    let a = x.before.before in
-    let i = sequenced (leaves clrsint0 a.requires a.ranges.value.fits) (start a.requires) x.sequencer_written_in.ensures in
+    let i = sequenced (leaves clrsint0 c.requires c.ranges.value.fits) (start c.requires) c.sequencer_written_in.ensures in
     there (flagged i false false WordRead c.status_kept_in.ensures)
 
 pub returns : goal.returns
 returns c =
-    let y = c.before.before.before in
-    let x = y.before.before in
-    let a = x.before.before in
-    let l = leaves clrsint0 a.requires a.ranges.value.fits in
-    let i = flagged (sequenced l (start a.requires) x.sequencer_written_in.ensures) false false WordRead y.status_kept_in.ensures in
-    acts l (unlatched i (Write 0x0B a.args.value) c.latches_written_in.ensures) c.done_with.ensures
+    let l = leaves clrsint0 c.requires c.ranges.value.fits in
+    let i = flagged (sequenced l (start c.requires) c.sequencer_written_in.ensures) false false WordRead c.status_kept_in.ensures in
+    acts l (unlatched i (Write 0x0B c.args.value) c.latches_written_in.ensures) c.done_with.ensures

@@ -17,19 +17,14 @@ byte_fits p = omega arith
 
 pub status_kept_in-requires : goal.status_kept_in-requires
 status_kept_in-requires c =
-    let put = c.before in
-    let o = put.before.before in
-    let a = o.args in
+    let a = c.args in
     let p = payload_of a.high a.middle a.low in
-    there (driven (leaves_driven o.requires (lines_of p) (byte_fits p)) (start o.requires) put.lines_put.ensures)
+    there (driven (leaves_driven c.requires (lines_of p) (byte_fits p)) (start c.requires) c.lines_put.ensures)
 
 pub returns : goal.returns
 unfolding value_read ticks_of
 returns c =
-    let kept = c.before in
-    let put = kept.before.before in
-    let o = put.before.before in
-    let a = o.args in
+    let a = c.args in
     let p = payload_of a.high a.middle a.low in
-    let l = leaves_driven o.requires (lines_of p) (byte_fits p) in
-    acts_with l refl refl (flagged (driven l (start o.requires) put.lines_put.ensures) false false WordRead kept.status_kept_in.ensures) c.done_with.ensures
+    let l = leaves_driven c.requires (lines_of p) (byte_fits p) in
+    acts_with l refl refl (flagged (driven l (start c.requires) c.lines_put.ensures) false false WordRead c.status_kept_in.ensures) c.done_with.ensures

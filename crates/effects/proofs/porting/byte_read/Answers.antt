@@ -16,47 +16,29 @@ use Rattle.effects.proofs.porting.byte_read.Goals as goal
 
 pub returns-then-shut_to : goal.returns-then-shut_to
 returns-then-shut_to c =
-    let t = c.before in
-    let k = t.before in
-    let o = k.before in
-    let s = state_at o.args.m.now in
-    read_refused o.requires 0x16 Shut (is_shut (byte_read_tests o.requires) k.shut_to.ensures t.if-shut_to.true) refl c.refused.ensures
+    let s = state_at c.args.m.now in
+    read_refused c.requires 0x16 Shut (is_shut (byte_read_tests c.requires) c.shut_to.ensures c.if-shut_to.true) refl c.refused.ensures
 
 pub returns-then-m-lt1 : goal.returns-then-m-lt1
 returns-then-m-lt1 c =
-    let t = c.before in
-    let l = t.before.before.before in
-    let k = l.before in
-    let o = k.before in
-    let s = state_at o.args.m.now in
-    read_refused o.requires 0x16 NoBytes (is_short (byte_read_tests o.requires) k.shut_to.ensures l.if-shut_to.false refl (lt-ltb (get_or o.args.m.now host_count_place 0) 1 t.if-m-lt1.true)) refl c.refused-then-m-lt1.ensures
+    let s = state_at c.args.m.now in
+    read_refused c.requires 0x16 NoBytes (is_short (byte_read_tests c.requires) c.shut_to.ensures c.if-shut_to.false refl (lt-ltb (get_or c.args.m.now host_count_place 0) 1 c.if-m-lt1.true)) refl c.refused-then-m-lt1.ensures
 
 pub status_kept_in-requires : goal.status_kept_in-requires
 status_kept_in-requires c =
-    let x = c.before in
-    let t = x.before.before.before in
-    let l = t.before.before.before in
-    let k = l.before in
-    let o = k.before in
-    let s = state_at o.args.m.now in
-    unheld_image o.requires 0x16 (omega arith) (is_open (byte_read_tests o.requires) k.shut_to.ensures l.if-shut_to.false refl (le-ltb (get_or o.args.m.now host_count_place 0) 1 t.if-m-lt1.false))
-    (x.host_popped.ensures ∙ ap image_of (port_left s))
+    let s = state_at c.args.m.now in
+    unheld_image c.requires 0x16 (omega arith) (is_open (byte_read_tests c.requires) c.shut_to.ensures c.if-shut_to.false refl (le-ltb (get_or c.args.m.now host_count_place 0) 1 c.if-m-lt1.false))
+    (c.host_popped.ensures ∙ ap image_of (port_left s))
 
 pub overflow_cast-value : goal.overflow_cast-value
 overflow_cast-value c =
-    let o = c.before.before.before.before.before.before.before.before.before.before in
-    let m = o.args.m.now in
-    record { fits = omega (arith, at_first m o.requires, bytes_at (state_at m).transfer.host 0 o.requires.bytes.transfer.host) }
+    let m = c.args.m.now in
+    record { fits = omega (arith, at_first m c.requires, bytes_at (state_at m).transfer.host 0 c.requires.bytes.transfer.host) }
 
 pub returns : goal.returns
 returns c =
-    let x = c.before.before.before in
-    let t = x.before.before.before in
-    let l = t.before.before.before in
-    let k = l.before in
-    let o = k.before in
-    let m = o.args.m.now in
+    let m = c.args.m.now in
     let s = state_at m in
-    read_acts o.requires 0x16 (omega arith) (is_open (byte_read_tests o.requires) k.shut_to.ensures l.if-shut_to.false refl (le-ltb (get_or o.args.m.now host_count_place 0) 1 t.if-m-lt1.false))
-    (x.host_popped.ensures ∙ ap image_of (port_left s)) (unaccessed s 0x16 refl) (unacked s 0x16 refl)
-    c.status_kept_in.ensures (at_first m o.requires ∙ port_value s) c.done_with.ensures
+    read_acts c.requires 0x16 (omega arith) (is_open (byte_read_tests c.requires) c.shut_to.ensures c.if-shut_to.false refl (le-ltb (get_or c.args.m.now host_count_place 0) 1 c.if-m-lt1.false))
+    (c.host_popped.ensures ∙ ap image_of (port_left s)) (unaccessed s 0x16 refl) (unacked s 0x16 refl)
+    c.status_kept_in.ensures (at_first m c.requires ∙ port_value s) c.done_with.ensures

@@ -19,45 +19,31 @@ use Rattle.effects.proofs.porting.byte_written.Goals as goal
 pub returns-then-shut_to : goal.returns-then-shut_to
 unfolding ticks_of
 returns-then-shut_to c =
-    let t = c.before.before in
-    let a = t.before in
-    let v = a.args.value in
-    let s = state_at a.args.m.now in
-    acts_refused s (Write 0x16 v) Shut (is_shut (byte_write_tests a.requires v) t.shut_to.ensures c.if-shut_to.true) refl a.requires.packed refl c.refused.ensures
+    let v = c.args.value in
+    let s = state_at c.args.m.now in
+    acts_refused s (Write 0x16 v) Shut (is_shut (byte_write_tests c.requires v) c.shut_to.ensures c.if-shut_to.true) refl c.requires.packed refl c.refused.ensures
 
 pub returns-then-m-ge128 : goal.returns-then-m-ge128
 unfolding ticks_of
 returns-then-m-ge128 c =
-    let l = c.before.before.before.before in
-    let t = l.before in
-    let a = t.before in
-    let v = a.args.value in
-    let s = state_at a.args.m.now in
-    acts_refused s (Write 0x16 v) NoRoom (is_full (byte_write_tests a.requires v) t.shut_to.ensures l.if-shut_to.false (lt-ltb 128 (get_or a.args.m.now host_count_place 0 + 1) (omega (arith, c.if-m-ge128.true)))) refl a.requires.packed refl c.refused-then-m-ge128.ensures
+    let v = c.args.value in
+    let s = state_at c.args.m.now in
+    acts_refused s (Write 0x16 v) NoRoom (is_full (byte_write_tests c.requires v) c.shut_to.ensures c.if-shut_to.false (lt-ltb 128 (get_or c.args.m.now host_count_place 0 + 1) (omega (arith, c.if-m-ge128.true)))) refl c.requires.packed refl c.refused-then-m-ge128.ensures
 
 pub host_pushed-requires : goal.host_pushed-requires
 host_pushed-requires c = record { image = c.requires; host_count_place_bound = omega (arith, c.if-m-ge128.false) }
 
 pub status_kept_in-requires : goal.status_kept_in-requires
 status_kept_in-requires c =
-    let f = c.before.before.before in
-    let l = f.before.before.before in
-    let t = l.before in
-    let a = t.before in
-    let v = a.args.value in
-    let s = state_at a.args.m.now in
-    let d = is_open (byte_write_tests a.requires v) t.shut_to.ensures l.if-shut_to.false (le-ltb 128 (get_or a.args.m.now host_count_place 0 + 1) (omega (arith, f.if-m-ge128.false))) refl in
-    there (carried (port_leaves a.requires a.ranges.value.fits d) (start a.requires) c.host_pushed.ensures)
+    let v = c.args.value in
+    let s = state_at c.args.m.now in
+    let d = is_open (byte_write_tests c.requires v) c.shut_to.ensures c.if-shut_to.false (le-ltb 128 (get_or c.args.m.now host_count_place 0 + 1) (omega (arith, c.if-m-ge128.false))) refl in
+    there (carried (port_leaves c.requires c.ranges.value.fits d) (start c.requires) c.host_pushed.ensures)
 
 pub returns : goal.returns
 returns c =
-    let x = c.before.before.before in
-    let f = x.before.before in
-    let l = f.before.before.before in
-    let t = l.before in
-    let a = t.before in
-    let v = a.args.value in
-    let s = state_at a.args.m.now in
-    let d = is_open (byte_write_tests a.requires v) t.shut_to.ensures l.if-shut_to.false (le-ltb 128 (get_or a.args.m.now host_count_place 0 + 1) (omega (arith, f.if-m-ge128.false))) refl in
-    let o = port_leaves a.requires a.ranges.value.fits d in
-    acts o (flagged (carried o (start a.requires) x.host_pushed.ensures) false false WordRead c.status_kept_in.ensures) c.done_with.ensures
+    let v = c.args.value in
+    let s = state_at c.args.m.now in
+    let d = is_open (byte_write_tests c.requires v) c.shut_to.ensures c.if-shut_to.false (le-ltb 128 (get_or c.args.m.now host_count_place 0 + 1) (omega (arith, c.if-m-ge128.false))) refl in
+    let o = port_leaves c.requires c.ranges.value.fits d in
+    acts o (flagged (carried o (start c.requires) c.host_pushed.ensures) false false WordRead c.status_kept_in.ensures) c.done_with.ensures

@@ -19,48 +19,29 @@ use Rattle.effects.proofs.porting.word_read.Goals as goal
 pub returns-then-shut_to : goal.returns-then-shut_to
 unfolding ticks_of
 returns-then-shut_to c =
-    let t = c.before in
-    let k = t.before in
-    let o = k.before in
-    let s = state_at o.args.m.now in
-    acts_refused s WordRead Shut (is_shut (word_read_tests o.requires) k.shut_to.ensures t.if-shut_to.true) refl o.requires.packed refl c.refused.ensures
+    let s = state_at c.args.m.now in
+    acts_refused s WordRead Shut (is_shut (word_read_tests c.requires) c.shut_to.ensures c.if-shut_to.true) refl c.requires.packed refl c.refused.ensures
 
 pub returns-then-m-lt2 : goal.returns-then-m-lt2
 unfolding ticks_of
 returns-then-m-lt2 c =
-    let t = c.before in
-    let l = t.before.before.before in
-    let k = l.before in
-    let o = k.before in
-    let s = state_at o.args.m.now in
-    acts_refused s WordRead NoBytes (is_short (word_read_tests o.requires) k.shut_to.ensures l.if-shut_to.false refl (lt-ltb (get_or o.args.m.now host_count_place 0) 2 t.if-m-lt2.true)) refl o.requires.packed refl c.refused-then-m-lt2.ensures
+    let s = state_at c.args.m.now in
+    acts_refused s WordRead NoBytes (is_short (word_read_tests c.requires) c.shut_to.ensures c.if-shut_to.false refl (lt-ltb (get_or c.args.m.now host_count_place 0) 2 c.if-m-lt2.true)) refl c.requires.packed refl c.refused-then-m-lt2.ensures
 
 pub host_popped-requires : goal.host_popped-requires
 host_popped-requires c =
-    let t = c.before.before in
-    record { image = t.requires; k_bound = omega (arith, t.if-m-lt2.false) }
+    record { image = c.requires; k_bound = omega (arith, c.if-m-lt2.false) }
 
 pub status_kept_in-requires : goal.status_kept_in-requires
 status_kept_in-requires c =
-    let x = c.before in
-    let t = x.before.before.before in
-    let l = t.before.before.before in
-    let k = l.before in
-    let o = k.before in
-    let s = state_at o.args.m.now in
-    let d = is_open (word_read_tests o.requires) k.shut_to.ensures l.if-shut_to.false refl (le-ltb (get_or o.args.m.now host_count_place 0) 2 t.if-m-lt2.false) in
-    there (carried (leaves_off o.requires d) (start o.requires) x.host_popped.ensures)
+    let s = state_at c.args.m.now in
+    let d = is_open (word_read_tests c.requires) c.shut_to.ensures c.if-shut_to.false refl (le-ltb (get_or c.args.m.now host_count_place 0) 2 c.if-m-lt2.false) in
+    there (carried (leaves_off c.requires d) (start c.requires) c.host_popped.ensures)
 
 pub returns : goal.returns
 unfolding value_read ticks_of
 returns c =
-    let x = c.before.before.before in
-    let v = x.before.before in
-    let t = v.before in
-    let l = t.before.before.before in
-    let k = l.before in
-    let o = k.before in
-    let s = state_at o.args.m.now in
-    let d = is_open (word_read_tests o.requires) k.shut_to.ensures l.if-shut_to.false refl (le-ltb (get_or o.args.m.now host_count_place 0) 2 t.if-m-lt2.false) in
-    let w = leaves_off o.requires d in
-    acts_with w v.oldest_word-value.ensures refl (flagged (carried w (start o.requires) x.host_popped.ensures) false false WordRead c.status_kept_in.ensures) c.done_with.ensures
+    let s = state_at c.args.m.now in
+    let d = is_open (word_read_tests c.requires) c.shut_to.ensures c.if-shut_to.false refl (le-ltb (get_or c.args.m.now host_count_place 0) 2 c.if-m-lt2.false) in
+    let w = leaves_off c.requires d in
+    acts_with w c.oldest_word-value.ensures refl (flagged (carried w (start c.requires) c.host_popped.ensures) false false WordRead c.status_kept_in.ensures) c.done_with.ensures

@@ -6,5 +6,4 @@ use Rattle.effects.proofs.reading.plain_read.Goals as goal
 
 pub returns : goal.returns
 returns c =
-    let k = c.before in
-    record { m_after = k.status_kept_in.ensures; value = c.done_with.ensures ∙ ap (λ (v : ℕ). done_with v 0) k.read_register-value.ensures }
+    record { m_after = c.status_kept_in.ensures; value = c.done_with.ensures ∙ ap (λ (v : ℕ). done_with v 0) c.read_register-value.ensures }

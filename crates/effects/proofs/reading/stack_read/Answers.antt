@@ -11,17 +11,12 @@ use Rattle.effects.proofs.reading.stack_read.Goals as goal
 pub status_kept_in-requires : goal.status_kept_in-requires
 unfolding read_at table
 status_kept_in-requires c =
-    let x = c.before in
-    let o = x.before.before.before in
-    let s = state_at o.args.m.now in
-    unheld_image o.requires 0x1D (omega arith) (read_done o.requires 0x1D STACK refl refl) (x.popped.ensures ∙ ap image_of (stack_left s))
+    let s = state_at c.args.m.now in
+    unheld_image c.requires 0x1D (omega arith) (read_done c.requires 0x1D STACK refl refl) (c.popped.ensures ∙ ap image_of (stack_left s))
 
 pub returns : goal.returns
 unfolding read_at table
 returns c =
-    let k = c.before in
-    let x = k.before.before in
-    let o = x.before.before.before in
-    let s = state_at o.args.m.now in
-    read_acts o.requires 0x1D (omega arith) (read_done o.requires 0x1D STACK refl refl) (x.popped.ensures ∙ ap image_of (stack_left s))
-    (unaccessed s 0x1D refl) (unacked s 0x1D refl) k.status_kept_in.ensures (x.stack_byte-value.ensures ∙ stack_value s) c.done_with.ensures
+    let s = state_at c.args.m.now in
+    read_acts c.requires 0x1D (omega arith) (read_done c.requires 0x1D STACK refl refl) (c.popped.ensures ∙ ap image_of (stack_left s))
+    (unaccessed s 0x1D refl) (unacked s 0x1D refl) c.status_kept_in.ensures (c.stack_byte-value.ensures ∙ stack_value s) c.done_with.ensures

@@ -14,27 +14,16 @@ use Rattle.effects.proofs.scsidat.latch_read.Goals as goal
 pub status_kept_in-requires : goal.status_kept_in-requires
 unfolding read_at table
 status_kept_in-requires c =
-    let x = c.before in
-    let k = x.before.before.before in
-    let ready = k.before in
-    let seen = ready.before in
-    let o = seen.before in
-    let m = o.args.m.now in
-    let acked = acked_is m (Read 0x06) (latch_accessed m seen.io_seen.ensures ready.spiordy.ensures) k.automatic_ack-acked.ensures in
-    unheld_image o.requires 0x06 (omega arith) (read_done o.requires 0x06 SCSIDAT refl refl)
-    (x.ack_by.ensures ∙ ap image_of (latch_left (state_at m) acked))
+    let m = c.args.m.now in
+    let acked = acked_is m (Read 0x06) (latch_accessed m c.io_seen.ensures c.spiordy.ensures) c.automatic_ack-acked.ensures in
+    unheld_image c.requires 0x06 (omega arith) (read_done c.requires 0x06 SCSIDAT refl refl)
+    (c.ack_by.ensures ∙ ap image_of (latch_left (state_at m) acked))
 
 pub returns : goal.returns
 unfolding read_at table
 returns c =
-    let x = c.before.before.before in
-    let v = x.before.before in
-    let k = v.before in
-    let ready = k.before in
-    let seen = ready.before in
-    let o = seen.before in
-    let m = o.args.m.now in
-    let acked = acked_is m (Read 0x06) (latch_accessed m seen.io_seen.ensures ready.spiordy.ensures) k.automatic_ack-acked.ensures in
-    read_acts o.requires 0x06 (omega arith) (read_done o.requires 0x06 SCSIDAT refl refl)
-    (x.ack_by.ensures ∙ ap image_of (latch_left (state_at m) acked))
-    (latch_accessed m seen.io_seen.ensures ready.spiordy.ensures) acked c.status_kept_in.ensures (v.data_seen-value.ensures ∙ at_bus m o.requires ∙ latch_value (state_at m)) c.done_with.ensures
+    let m = c.args.m.now in
+    let acked = acked_is m (Read 0x06) (latch_accessed m c.io_seen.ensures c.spiordy.ensures) c.automatic_ack-acked.ensures in
+    read_acts c.requires 0x06 (omega arith) (read_done c.requires 0x06 SCSIDAT refl refl)
+    (c.ack_by.ensures ∙ ap image_of (latch_left (state_at m) acked))
+    (latch_accessed m c.io_seen.ensures c.spiordy.ensures) acked c.status_kept_in.ensures (c.data_seen-value.ensures ∙ at_bus m c.requires ∙ latch_value (state_at m)) c.done_with.ensures

@@ -7,13 +7,10 @@ use Rattle.effects.proofs.writing.high_counter.Goals as goal
 
 pub status_kept_in-requires : goal.status_kept_in-requires
 status_kept_in-requires c =
-    let a = c.before.before.before in
-    there (carried (leaves stcnt2 a.requires a.ranges.value.fits) (start a.requires) c.high_written.ensures)
+    there (carried (leaves stcnt2 c.requires c.ranges.value.fits) (start c.requires) c.high_written.ensures)
 
 pub returns : goal.returns
 returns c =
-    let x = c.before.before.before in
-    let a = x.before.before in
-    let l = leaves stcnt2 a.requires a.ranges.value.fits in
-    let i = carried l (start a.requires) x.high_written.ensures in
+    let l = leaves stcnt2 c.requires c.ranges.value.fits in
+    let i = carried l (start c.requires) c.high_written.ensures in
     acts l (flagged i false false WordRead c.status_kept_in.ensures) c.done_with.ensures

@@ -8,12 +8,10 @@ use Rattle.effects.proofs.writing.plain_written.Goals as goal
 
 pub status_kept_in-requires : goal.status_kept_in-requires
 status_kept_in-requires c =
-    let a = c.before.before.before in
-    there (stored (leaves a.requires.plain.does a.requires.image a.ranges.value.fits) (start a.requires.image) refl c.stored.ensures)
+    there (stored (leaves c.requires.plain.does c.requires.image c.ranges.value.fits) (start c.requires.image) refl c.stored.ensures)
 
 pub returns : goal.returns
 returns c =
-    let a = c.before.before.before.before.before in
-    let l = leaves a.requires.plain.does a.requires.image a.ranges.value.fits in
-    let i = stored l (start a.requires.image) refl c.stored.ensures in
+    let l = leaves c.requires.plain.does c.requires.image c.ranges.value.fits in
+    let i = stored l (start c.requires.image) refl c.stored.ensures in
     acts l (flagged i false false WordRead c.status_kept_in.ensures) c.done_with.ensures

@@ -11,21 +11,15 @@ sequencer_written_in-requires c = record { image = c.requires.image; written = c
 
 pub stored-requires : goal.stored-requires
 stored-requires c =
-    let a = c.before.before.before in
-    record { image = there (sequenced (leaves a.requires.selects.does a.requires.image a.ranges.value.fits) (start a.requires.image) c.sequencer_written_in.ensures); written = a.requires.selects.written }
+    record { image = there (sequenced (leaves c.requires.selects.does c.requires.image c.ranges.value.fits) (start c.requires.image) c.sequencer_written_in.ensures); written = c.requires.selects.written }
 
 pub status_kept_in-requires : goal.status_kept_in-requires
 status_kept_in-requires c =
-    let x = c.before.before.before in
-    let a = x.before.before in
-    let l = leaves a.requires.selects.does a.requires.image a.ranges.value.fits in
-    there (stored l (sequenced l (start a.requires.image) x.sequencer_written_in.ensures) refl c.stored.ensures)
+    let l = leaves c.requires.selects.does c.requires.image c.ranges.value.fits in
+    there (stored l (sequenced l (start c.requires.image) c.sequencer_written_in.ensures) refl c.stored.ensures)
 
 pub returns : goal.returns
 returns c =
-    let y = c.before.before.before in
-    let x = y.before.before in
-    let a = x.before.before in
-    let l = leaves a.requires.selects.does a.requires.image a.ranges.value.fits in
-    let i = stored l (sequenced l (start a.requires.image) x.sequencer_written_in.ensures) refl y.stored.ensures in
+    let l = leaves c.requires.selects.does c.requires.image c.ranges.value.fits in
+    let i = stored l (sequenced l (start c.requires.image) c.sequencer_written_in.ensures) refl c.stored.ensures in
     acts l (flagged i false false WordRead c.status_kept_in.ensures) c.done_with.ensures

@@ -14,16 +14,12 @@ use Rattle.effects.proofs.writing.test_written.Goals as goal
 
 pub returns-then-value-eq0 : goal.returns-then-value-eq0
 returns-then-value-eq0 c =
-    let t = c.before.before.before in
-    let a = t.before in
-    let i = flagged (start a.requires) false false WordRead c.status_kept_in.ensures in
-    (acts (test_leaves a.requires a.ranges.value.fits scsitest t.if-value-eq0.true) i c.done_with.ensures, acts (test_leaves a.requires a.ranges.value.fits test t.if-value-eq0.true) i c.done_with.ensures)
+    let i = flagged (start c.requires) false false WordRead c.status_kept_in.ensures in
+    (acts (test_leaves c.requires c.ranges.value.fits scsitest c.if-value-eq0.true) i c.done_with.ensures, acts (test_leaves c.requires c.ranges.value.fits test c.if-value-eq0.true) i c.done_with.ensures)
 
 pub returns : goal.returns
 unfolding refused_value ticks_of
 returns c =
-    let t = c.before in
-    let a = t.before in
-    let v = a.args.value in
-    let s = state_at a.args.m.now in
-    (acts_refused s (Write 0x0E v) TestValue (test_refused a.requires v scsitest t.if-value-eq0.false) refl a.requires.packed refl c.refused.ensures, acts_refused s (Write 0x1E v) TestValue (test_refused a.requires v test t.if-value-eq0.false) refl a.requires.packed refl c.refused.ensures)
+    let v = c.args.value in
+    let s = state_at c.args.m.now in
+    (acts_refused s (Write 0x0E v) TestValue (test_refused c.requires v scsitest c.if-value-eq0.false) refl c.requires.packed refl c.refused.ensures, acts_refused s (Write 0x1E v) TestValue (test_refused c.requires v test c.if-value-eq0.false) refl c.requires.packed refl c.refused.ensures)

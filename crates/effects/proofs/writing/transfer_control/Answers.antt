@@ -10,30 +10,20 @@ use Rattle.effects.proofs.writing.transfer_control.Goals as goal
 
 pub counter_by-requires : goal.counter_by-requires
 counter_by-requires c =
-    let a = c.before.before.before in
-    channel_image a.args.value a.requires c.channel_by.ensures
+    channel_image c.args.value c.requires c.channel_by.ensures
 
 pub stored-requires : goal.stored-requires
 unfolding table written_at
 stored-requires c =
-    let x = c.before.before.before in
-    let a = x.before.before in
-    record { image = there (carried (leaves sxfrctl0 a.requires a.ranges.value.fits) (start a.requires) (both_cleared a.args.value a.requires x.channel_by.ensures c.counter_by.ensures)); written = refl }
+    record { image = there (carried (leaves sxfrctl0 c.requires c.ranges.value.fits) (start c.requires) (both_cleared c.args.value c.requires c.channel_by.ensures c.counter_by.ensures)); written = refl }
 
 pub status_kept_in-requires : goal.status_kept_in-requires
 status_kept_in-requires c =
-    let y = c.before.before.before in
-    let x = y.before.before in
-    let a = x.before.before in
-    let l = leaves sxfrctl0 a.requires a.ranges.value.fits in
-    there (stored l (carried l (start a.requires) (both_cleared a.args.value a.requires x.channel_by.ensures y.counter_by.ensures)) refl c.stored.ensures)
+    let l = leaves sxfrctl0 c.requires c.ranges.value.fits in
+    there (stored l (carried l (start c.requires) (both_cleared c.args.value c.requires c.channel_by.ensures c.counter_by.ensures)) refl c.stored.ensures)
 
 pub returns : goal.returns
 returns c =
-    let z = c.before.before.before in
-    let y = z.before.before in
-    let x = y.before.before in
-    let a = x.before.before in
-    let l = leaves sxfrctl0 a.requires a.ranges.value.fits in
-    let i = stored l (carried l (start a.requires) (both_cleared a.args.value a.requires x.channel_by.ensures y.counter_by.ensures)) refl z.stored.ensures in
+    let l = leaves sxfrctl0 c.requires c.ranges.value.fits in
+    let i = stored l (carried l (start c.requires) (both_cleared c.args.value c.requires c.channel_by.ensures c.counter_by.ensures)) refl c.stored.ensures in
     acts l (flagged i false false WordRead c.status_kept_in.ensures) c.done_with.ensures

@@ -10,6 +10,5 @@ returns-then-not-way c = c.raised_in.ensures
 
 pub returns-else-not-way : goal.returns-else-not-way
 returns-else-not-way c =
-    let a = c.before in
-    let s = state_at a.args.m.now in
-    a.requires.image.packed ∙ ap image_of (unraised s (sym a.requires.way_value ∙ c.if-not-way.false))
+    let s = state_at c.args.m.now in
+    c.requires.image.packed ∙ ap image_of (unraised s (sym c.requires.way_value ∙ c.if-not-way.false))

@@ -15,37 +15,27 @@ bus_in-beyond-requires c =
 
 pub settle-t-requires : goal.settle-t-requires
 settle-t-requires c =
-    let found = c.before.before in
-    let start = found.before.before.before.before in
-    let w = start.requires in
-    let seen = start.args.seen in
-    b.image_b w.state w.range w.bytes w.event w.fits w.done w.made seen w.rst w.req w.ticks w.mismatched found.bus_in-beyond.ensures.m_after
+    let w = c.requires in
+    let seen = c.args.seen in
+    b.image_b w.state w.range w.bytes w.event w.fits w.done w.made seen w.rst w.req w.ticks w.mismatched c.bus_in-beyond.ensures.m_after
 
 pub closed_in-requires : goal.closed_in-requires
 closed_in-requires c =
-    let settled = c.before in
-    let way = settled.before.before in
-    let found = way.before in
-    let start = found.before.before.before.before in
-    let w = start.requires in
-    let seen = start.args.seen in
+    let w = c.requires in
+    let seen = c.args.seen in
     let f = b.b_fits w.state w.range w.bytes w.event w.fits w.done w.made in
     let g = b.b_bytes w.state w.range w.bytes w.event w.fits w.done w.made in
-    let h = b.is_b w.state w.range w.bytes w.event w.fits w.done w.made seen w.rst w.req w.ticks w.mismatched found.bus_in-beyond.ensures.m_after in
-    record { image = all.image_c w.state w.event f g h settled.settle-t.ensures; way_value = all.way_kept w.state w.event f g h settled.settle-t.ensures way.path-way.ensures }
+    let h = b.is_b w.state w.range w.bytes w.event w.fits w.done w.made seen w.rst w.req w.ticks w.mismatched c.bus_in-beyond.ensures.m_after in
+    record { image = all.image_c w.state w.event f g h c.settle-t.ensures; way_value = all.way_kept w.state w.event f g h c.settle-t.ensures c.path-way.ensures }
 
 abbrev beyond_code : Bool → Code
 beyond_code x = cond x BeyondLimit Done
 
 pub returns : goal.returns
 returns c =
-    let code = c.before in
-    let closed = code.before in
-    let settled = closed.before.before in
-    let found = settled.before.before.before in
-    let seen = found.args.seen in
+    let seen = c.args.seen in
     λ w.
     all.leaves w.state w.event (b.b_fits w.state w.range w.bytes w.event w.fits w.done w.made) (b.b_bytes w.state w.range w.bytes w.event w.fits w.done w.made)
-    (b.is_b w.state w.range w.bytes w.event w.fits w.done w.made seen w.rst w.req w.ticks w.mismatched found.bus_in-beyond.ensures.m_after) settled.settle-t.ensures
-    w.simode0 w.simode1 (status_of_lem _ (b.state_a w.state w.range w.bytes w.event w.fits w.done w.made)) closed.closed_in.ensures
-    (code.code_of-code.ensures ∙ ap beyond_code (b.beyond_is w.state w.range w.bytes w.event w.fits w.done w.made seen w.rst w.req w.ticks found.bus_in-beyond.ensures.value)) w.value
+    (b.is_b w.state w.range w.bytes w.event w.fits w.done w.made seen w.rst w.req w.ticks w.mismatched c.bus_in-beyond.ensures.m_after) c.settle-t.ensures
+    w.simode0 w.simode1 (status_of_lem _ (b.state_a w.state w.range w.bytes w.event w.fits w.done w.made)) c.closed_in.ensures
+    (c.code_of-code.ensures ∙ ap beyond_code (b.beyond_is w.state w.range w.bytes w.event w.fits w.done w.made seen w.rst w.req w.ticks c.bus_in-beyond.ensures.value)) w.value

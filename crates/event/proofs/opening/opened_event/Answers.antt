@@ -14,24 +14,19 @@ use Rattle.event.proofs.opening.opened_event.Goals as goal
 -- the record of lines has four bytes
 pub bounds-bytes-1 : goal.bounds-bytes-1
 bounds-bytes-1 c =
-    let a = c.before.before.before.before.before.before in
-    omega (arith, four a.args.bytes.now a.requires.bytes_value)
+    omega (arith, four c.args.bytes.now c.requires.bytes_value)
 
 pub bounds-bytes-2 : goal.bounds-bytes-2
 bounds-bytes-2 c =
-    let a = c.before.before.before.before.before.before.before in
-    omega (arith, four a.args.bytes.now a.requires.bytes_value)
+    omega (arith, four c.args.bytes.now c.requires.bytes_value)
 
 pub bounds-bytes-3 : goal.bounds-bytes-3
 bounds-bytes-3 c =
-    let a = c.before.before.before.before.before.before.before.before in
-    omega (arith, four a.args.bytes.now a.requires.bytes_value)
+    omega (arith, four c.args.bytes.now c.requires.bytes_value)
 
 pub ticked-requires : goal.ticked-requires
 ticked-requires c =
-    let known = c.before.before in
-    let a = known.before.before.before in
-    record { image = a.requires.image; n_bound = event_fits a.args.bytes.now (a.requires.bytes_value ∙ ap Well known.in-Ticks.is) }
+    record { image = c.requires.image; n_bound = event_fits c.args.bytes.now (c.requires.bytes_value ∙ ap Well c.in-Ticks.is) }
 
 pub returns-in-PowerReset : goal.returns-in-PowerReset
 returns-in-PowerReset c = rw c.in-PowerReset.is c.power_reset_in.ensures
@@ -51,11 +46,9 @@ returns-in-WordRead c = rw c.in-WordRead.is c.word_read.ensures
 -- and its lines are those of its payload
 pub returns-in-Drive : goal.returns-in-Drive
 returns-in-Drive c =
-    let known = c.before.before.before.before.before.before in
-    let a = known.before.before.before in
-    let s = state_at a.args.m.now in
-    rw known.in-Drive.is
-    (subst (λ (l : Lines). Acts s (Drive l) c.drive_in.new.m c.drive_in.result) (lines_taken a.args.bytes.now (a.requires.bytes_value ∙ ap Well known.in-Drive.is)) c.drive_in.ensures)
+    let s = state_at c.args.m.now in
+    rw c.in-Drive.is
+    (subst (λ (l : Lines). Acts s (Drive l) c.drive_in.new.m c.drive_in.result) (lines_taken c.args.bytes.now (c.requires.bytes_value ∙ ap Well c.in-Drive.is)) c.drive_in.ensures)
 
 pub returns-in-Ticks : goal.returns-in-Ticks
 returns-in-Ticks c = rw c.in-Ticks.is c.ticked.ensures

@@ -6,9 +6,8 @@ use Rattle.event.proofs.passing.copied.Goals as goal
 pub returns : goal.returns
 unfolding single_ticks
 returns c =
-    let start = c.before in
     record {
       same = refl;
       less = omega arith;
-      marked = λ h. record { image = start.requires.image; rests = start.requires.at_rest; same = refl };
+      marked = λ h. record { image = c.requires.image; rests = c.requires.at_rest; same = refl };
     }

@@ -24,14 +24,12 @@ returns-then-a-i c =
 pub loop-i-preserved : goal.loop-i-preserved
 loop-i-preserved c =
     let loop = c.loop-i in
-    let start = c.before.before.before.before.before.before.before in
-    (omega arith, more start.args.a.now start.args.b.now loop.i loop.invariant.1 c.if-a-i.false)
+    (omega arith, more c.args.a.now c.args.b.now loop.i loop.invariant.1 c.if-a-i.false)
 
 pub returns : goal.returns
 returns c =
     let loop = c.loop-i in
-    let start = c.before.before in
-    let a = start.args.a.now in
-    let b = start.args.b.now in
-    let same : a ≡ b = ext_get_or 0 a b (start.requires.a_len ∙ sym start.requires.b_len) (λ i h. loop.invariant.1 i (omega (arith, h, start.requires.a_len, c.loop-i-test.false))) in
+    let a = c.args.a.now in
+    let b = c.args.b.now in
+    let same : a ≡ b = ext_get_or 0 a b (c.requires.a_len ∙ sym c.requires.b_len) (λ i h. loop.invariant.1 i (omega (arith, h, c.requires.a_len, c.loop-i-test.false))) in
     (λ e. same, λ e. refl)

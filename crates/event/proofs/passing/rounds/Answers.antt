@@ -14,31 +14,26 @@ returns-then-left-lt144 c = record { same = refl; less = omega arith; marked = �
 
 pub returns-then-since-lt72 : goal.returns-then-since-lt72
 returns-then-since-lt72 c =
-    let start = c.before.before.before.before.before in
     record {
       same = refl;
       less = omega arith;
-      marked = λ h. led_nowhere (start.requires.leads (omega (arith, h))) (sym c.is_nothing.ensures ∙ c.if-not-is_nothing.false);
+      marked = λ h. led_nowhere (c.requires.leads (omega (arith, h))) (sym c.is_nothing.ensures ∙ c.if-not-is_nothing.false);
     }
 
 pub is_same-requires : goal.is_same-requires
 is_same-requires c =
-    let start = c.before.before.before.before.before.before in
-    let led = start.requires.1.1 (omega (arith, c.before.before.before.before.if2.false)) in
-    record { a_len = long _ start.requires.0; b_len = long _ led.image }
+    let led = c.requires.leads (omega (arith, c.if-since-gt72.false)) in
+    record { a_len = long _ c.requires.image; b_len = long _ led.image }
 
 pub returns-then-is_same : goal.returns-then-is_same
 returns-then-is_same c =
-    let same = c.before in
-    let tests = same.before in
-    let start = tests.before.before.before.before.before in
-    let left = start.args.left in
-    let late = tests.if-since-gt72.false in
-    let led = start.requires.leads (omega (arith, late)) in
+    let left = c.args.left in
+    let late = c.if-since-gt72.false in
+    let led = c.requires.leads (omega (arith, late)) in
     let some : 0 < 72 = omega arith in
     let small : left % 72 < 72 = mod-lt left some in
     record {
-      same = led_round start.requires.image led (omega (arith, tests.if-since-lt72.false, late)) (sym tests.is_nothing.ensures ∙ tests.if-not-is_nothing.false) (same.is_same.ensures.0 c.if-is_same.true) left;
-      less = omega (arith, small, tests.if-left-lt144.false);
+      same = led_round c.requires.image led (omega (arith, c.if-since-lt72.false, late)) (sym c.is_nothing.ensures ∙ c.if-not-is_nothing.false) (c.is_same.ensures.0 c.if-is_same.true) left;
+      less = omega (arith, small, c.if-left-lt144.false);
       marked = λ h. absurd (omega (arith, h));
     }

@@ -6,11 +6,9 @@ use Rattle.event.proofs.stepping.added.Goals as goal
 
 pub summed-requires : goal.summed-requires
 summed-requires c =
-    let start = c.before.before in
-    rw c.told.ensures (start.requires c.if-first.false)
+    rw c.told.ensures (c.requires c.if-first.false)
 
 pub returns-else-first : goal.returns-else-first
 returns-else-first c =
-    let start = c.before.before.before in
-    let b = start.args.before in
+    let b = c.args.before in
     rw c.if-first.false (c.summed.ensures ∙ ap (λ (t : Told). summed b.moves b.acks b.sent t) c.told.ensures)

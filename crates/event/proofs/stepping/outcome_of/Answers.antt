@@ -25,24 +25,17 @@ use Rattle.event.proofs.stepping.outcome_of.Goals.{Else-a}
 begun : (e : Else-a) → starts.Onward (step (state_at e.args.m.now) e.args.bytes.now) e.opened-a.new.m e.seen_in-seen.result (get_or e.args.m.now simode0_place 0) (get_or e.args.m.now simode1_place 0) e.opened-a.result.ticks e.opened-a.result.value
 unfolding step state_at
 begun e =
-    let a = e.before in
-    let seen = a.before.before.before.before.before in
-    let start = seen.before.before in
-    let m = start.args.m.now in
-    starts.opens_onward (state_at m) start.requires.range start.requires.bytes a.opened-a.result (ap rst_of seen.seen_in-seen.ensures ∙ rst_of_lem m) (ap req_of seen.seen_in-seen.ensures ∙ req_of_lem m) (ap mismatched_of seen.seen_in-seen.ensures ∙ mismatched_of_lem m) refl refl (decode start.args.bytes.now) (decode_fits start.args.bytes.now) a.opened-a.ensures e.if-a.false
+    let m = e.args.m.now in
+    starts.opens_onward (state_at m) e.requires.range e.requires.bytes e.opened-a.result (ap rst_of e.seen_in-seen.ensures ∙ rst_of_lem m) (ap req_of e.seen_in-seen.ensures ∙ req_of_lem m) (ap mismatched_of e.seen_in-seen.ensures ∙ mismatched_of_lem m) refl refl (decode e.args.bytes.now) (decode_fits e.args.bytes.now) e.opened-a.ensures e.if-a.false
 
 reported : (e : Else-a) → StepFits (step (state_at e.args.m.now) e.args.bytes.now)
 reported e =
-    let start = e.before.before.before.before.before.before.before.before in
-    step_fits (state_at start.args.m.now) start.args.bytes.now start.requires.range
+    step_fits (state_at e.args.m.now) e.args.bytes.now e.requires.range
 
 pub returns-then-a : goal.returns-then-a
 unfolding step
 returns-then-a c =
-    let branch = c.before in
-    let a = branch.before in
-    let start = a.before.before.before.before.before.before.before in
-    rw c.ended.ensures (starts.opens_leaves (state_at start.args.m.now) start.requires.range a.opened-a.result (decode start.args.bytes.now) a.opened-a.ensures branch.if-a.true)
+    rw c.ended.ensures (starts.opens_leaves (state_at c.args.m.now) c.requires.range c.opened-a.result (decode c.args.bytes.now) c.opened-a.ensures c.if-a.true)
 
 pub overflow_sub-left : goal.overflow_sub-left
 overflow_sub-left c = omega (arith, c.at_most_one-one.ensures)
@@ -51,39 +44,33 @@ pub loop-first-init : goal.loop-first-init
 loop-first-init c y w = turns.begin _ _ w c.at_most_one-one.ensures refl (omega arith)
 
 pub finished-p-requires : goal.finished-p-requires
-finished-p-requires c = (c.loop-first.invariant _ (begun c.before.before.before.before.before)).ready
+finished-p-requires c = (c.loop-first.invariant _ (begun (goal.at.finished-p-requires c).Else-a)).ready
 
 pub returns-then-first-left : goal.returns-then-first-left
 returns-then-first-left c =
-    let fin = c.before in
-    let loop = fin.loop-first in
-    let w = loop.invariant _ (begun fin.before.before.before.before.before.before) in
+    let loop = c.loop-first in
+    let w = loop.invariant _ (begun (goal.at.returns-then-first-left c).Else-a) in
     let first = loop.first in
-    let left = loop.false in
-    turns.turn_only w (fin.finished-p.ensures w.ready) (left_true first (eqb left 0) c.if-first-left.true) (eqb-true left 0 (right_true first (eqb left 0) c.if-first-left.true))
+    let left = loop.left in
+    turns.turn_only w (c.finished-p.ensures w.ready) (left_true first (eqb left 0) c.if-first-left.true) (eqb-true left 0 (right_true first (eqb left 0) c.if-first-left.true))
 
 pub added-o-requires : goal.added-o-requires
 added-o-requires c =
-    let fin = c.before in
-    let e = fin.before.before.before.before.before.before in
-    let w = fin.loop-first.invariant _ (begun e) in
-    turns.turn_sums w (fin.finished-p.ensures w.ready) (reported e)
+    let w = c.loop-first.invariant _ (begun (goal.at.added-o-requires c).Else-a) in
+    turns.turn_sums w (c.finished-p.ensures w.ready) (reported (goal.at.added-o-requires c).Else-a)
 
 pub onward-n-requires : goal.onward-n-requires
 onward-n-requires c =
-    let fin = c.before.before.before.before.before in
-    let w = fin.loop-first.invariant _ (begun fin.before.before.before.before.before.before) in
-    let l = fin.finished-p.ensures w.ready in
+    let w = c.loop-first.invariant _ (begun (goal.at.onward-n-requires c).Else-a) in
+    let l = c.finished-p.ensures w.ready in
     record { image = turns.turn_image w l; at_rest = turns.turn_rests w l; leads = turns.turn_leads w l c.told.ensures }
 
 pub returns-then-not-n : goal.returns-then-not-n
 returns-then-not-n c =
-    let ahead = c.before.before in
-    let fin = c.before.before.before.before.before.before.before.before in
-    let w = fin.loop-first.invariant _ (begun fin.before.before.before.before.before.before) in
-    let l = fin.finished-p.ensures w.ready in
-    let g = ahead.onward-n.ensures in
-    turns.turn_last w l c.added-o.ensures (turns.some_left _ _ c.if-first-left.false) g.image (g.none c.if-not-n.true)
+    let w = c.loop-first.invariant _ (begun (goal.at.returns-then-not-n c).Else-a) in
+    let l = c.finished-p.ensures w.ready in
+    let g = c.onward-n.ensures in
+    turns.turn_last w l c.added-o.ensures (turns.some_left _ _ c.if-first-left.false) g.image (g.none (not-true c.onward-n.result.more c.if-not-n.true))
 
 pub ticked-requires : goal.ticked-requires
 ticked-requires c = record { image = c.onward-n.ensures.image; n_bound = omega arith }
@@ -91,16 +78,13 @@ ticked-requires c = record { image = c.onward-n.ensures.image; n_bound = omega a
 pub loop-first-smaller : goal.loop-first-smaller
 loop-first-smaller c =
     let g = c.onward-n.ensures in
-    omega (arith, g.less c.if-not-n.false)
+    omega (arith, g.less (not-false c.onward-n.result.more c.if-not-n.false))
 
 pub loop-first-preserved : goal.loop-first-preserved
 unfolding state_at
 loop-first-preserved c y b =
-    let ahead = c.before.before.before.before.before.before.before.before in
-    let fin = c.before.before.before.before.before.before.before.before.before.before.before.before.before.before in
-    let w = fin.loop-first.invariant y b in
-    let l = fin.finished-p.ensures w.ready in
-    let g = ahead.onward-n.ensures in
-    let seen = c.before.before.before.before.before in
-    let m = ahead.onward-n.new.m in
-    turns.turn_next w l c.added-o.ensures c.ticked.result c.if-not-n.false g (ap rst_of seen.seen_in-seen-in-loop-first.ensures ∙ rst_of_lem m) (ap req_of seen.seen_in-seen-in-loop-first.ensures ∙ req_of_lem m) (ap mismatched_of seen.seen_in-seen-in-loop-first.ensures ∙ mismatched_of_lem m) refl refl c.ticked.ensures
+    let w = c.loop-first.invariant y b in
+    let l = c.finished-p.ensures w.ready in
+    let g = c.onward-n.ensures in
+    let m = c.onward-n.new.m in
+    turns.turn_next w l c.added-o.ensures c.ticked.result (not-false c.onward-n.result.more c.if-not-n.false) g (ap rst_of c.seen_in-seen-in-loop-first.ensures ∙ rst_of_lem m) (ap req_of c.seen_in-seen-in-loop-first.ensures ∙ req_of_lem m) (ap mismatched_of c.seen_in-seen-in-loop-first.ensures ∙ mismatched_of_lem m) refl refl c.ticked.ensures

@@ -27,9 +27,8 @@ counted l s e = ap (λ (x : Sent). x.count) e
 
 pub one_more-s-requires : goal.one_more-s-requires
 one_more-s-requires c =
-    let start = c.before.before.before in
-    let a = start.args in
-    let p = start.requires in
+    let a = c.args in
+    let p = c.requires in
     let loop = c.loop-i in
     let l = sent_view a.a in
     let bytes = a.b.bytes in
@@ -44,14 +43,12 @@ loop-i-smaller c = omega arith
 
 pub loop-i-preserved : goal.loop-i-preserved
 loop-i-preserved c =
-    let test = c.before in
-    let start = test.before.before.before in
-    let a = start.args in
-    let loop = test.loop-i in
+    let a = c.args in
+    let loop = c.loop-i in
     let l = sent_view a.a in
     let bytes = a.b.bytes in
     let i = loop.i in
-    let room : i < length bytes = omega (arith, enough a.b start.requires.sent_tidy_2, test.loop-i-test.true) in (
+    let room : i < length bytes = omega (arith, enough a.b c.requires.sent_tidy_2, c.loop-i-test.true) in (
       omega arith,
       c.one_more-s.ensures
           ∙ ap (λ (x : Sent). sent_of (sent_view x ++ (get_or bytes i 0 ∷ []))) loop.invariant.1

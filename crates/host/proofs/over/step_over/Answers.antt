@@ -6,10 +6,8 @@ use Rattle.host.proofs.over.step_over.Goals as goal
 
 pub returns-then-answer-ne-ANSWER_SIZE : goal.returns-then-answer-ne-ANSWER_SIZE
 returns-then-answer-ne-ANSWER_SIZE c =
-    let start = c.before.before.before in
-    called_short start.args.bytes.now start.requires c.if-answer-ne-ANSWER_SIZE.true
+    called_short c.args.bytes.now c.requires c.if-answer-ne-ANSWER_SIZE.true
 
 pub returns : goal.returns
 returns c =
-    let start = c.before.before.before.before.before.before.before.before.before in
-    called_one start.args.answer.now c.if-answer-ne-ANSWER_SIZE.false c.one_answered.ensures refl
+    called_one c.args.answer.now c.if-answer-ne-ANSWER_SIZE.false c.one_answered.ensures refl

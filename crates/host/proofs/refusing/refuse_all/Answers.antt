@@ -17,19 +17,17 @@ store_at-requires c = omega (arith, c.loop-i.invariant.2, c.loop-i-test.true)
 
 pub loop-i-preserved : goal.loop-i-preserved
 loop-i-preserved c =
-    let stored = c.before.before in
     let t = c.loop-i-test.true in
     let l = c.loop-i in
     let a = c.args in
-    let same = stored.store_at.auto.1.0 in
-    (omega (arith, l.invariant.0, t), l.invariant.1, omega (arith, l.invariant.2, same), omega (arith, l.invariant.3, same), l.invariant.4, refusals_more l.i a.answers.now l.invariant.5 c.refused_answer-b.ensures stored.store_at.ensures)
+    let same = c.store_at.auto.1.0 in
+    (omega (arith, l.invariant.0, t), l.invariant.1, omega (arith, l.invariant.2, same), omega (arith, l.invariant.3, same), l.invariant.4, refusals_more l.i a.answers.now l.invariant.5 c.refused_answer-b.ensures c.store_at.ensures)
 
 pub returns : goal.returns
 returns c =
     let l = c.loop-i in
-    let smaller = c.before.before in
-    let a = smaller.args in
-    let e : l.i ≡ smaller.smaller-n.result = omega arith in
+    let a = c.args in
+    let e : l.i ≡ c.smaller-n.result = omega arith in
     let k : l.i ≡ stepped_in a.records.now a.answers.now = e ∙ l.invariant.1 in
     record { count = l.invariant.1; answers = l.invariant.5 ∙ ap (λ (j : ℕ). refusals j ++ drop (16 * j) a.answers.now) k }
 

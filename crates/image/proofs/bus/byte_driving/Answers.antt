@@ -26,28 +26,17 @@ by_tests s d e f g h = rw (d, e, f, g, h) (first _ s.lines.io (connected s))
 pub returns-then-m-eq1 : goal.returns-then-m-eq1
 unfolding state_at
 returns-then-m-eq1 c =
-    let mode = c.before.before in
-    let normal = mode.before.before.before in
-    let automatic = normal.before in
-    let manual = automatic.before in
-    let m = manual.args.m.now in
-    rw mode.if-manual-automatic.true at (by_tests (state_at m) (sym (eq-eqb _ _ c.if-m-eq1.true)) refl manual.manual.ensures automatic.automatic.ensures normal.normal.ensures)
+    let m = c.args.m.now in
+    rw c.if-manual-automatic.true at (by_tests (state_at m) (sym (eq-eqb _ _ c.if-m-eq1.true)) refl c.manual.ensures c.automatic.ensures c.normal.ensures)
 
 pub returns-else-m-eq1 : goal.returns-else-m-eq1
 unfolding state_at
 returns-else-m-eq1 c =
-    let mode = c.before.before.before in
-    let normal = mode.before.before.before in
-    let automatic = normal.before in
-    let manual = automatic.before in
-    let m = manual.args.m.now in
-    rw mode.if-manual-automatic.true at (by_tests (state_at m) (sym (ne_eqb _ _ c.if-m-eq1.false)) c.connected.ensures manual.manual.ensures automatic.automatic.ensures normal.normal.ensures)
+    let m = c.args.m.now in
+    rw c.if-manual-automatic.true at (by_tests (state_at m) (sym (ne_eqb _ _ c.if-m-eq1.false)) c.connected.ensures c.manual.ensures c.automatic.ensures c.normal.ensures)
 
 pub returns-else-manual-automatic : goal.returns-else-manual-automatic
 unfolding state_at
 returns-else-manual-automatic c =
-    let normal = c.before.before.before in
-    let automatic = normal.before in
-    let manual = automatic.before in
-    let m = manual.args.m.now in
-    rw c.if-manual-automatic.false at (by_tests (state_at m) refl refl manual.manual.ensures automatic.automatic.ensures normal.normal.ensures)
+    let m = c.args.m.now in
+    rw c.if-manual-automatic.false at (by_tests (state_at m) refl refl c.manual.ensures c.automatic.ensures c.normal.ensures)

@@ -16,8 +16,7 @@ by_test s e = rw e
 pub returns-then-drives_data : goal.returns-then-drives_data
 unfolding state_at
 returns-then-drives_data c =
-    let start = c.before.before.before.before.before.before in
-    let m = start.args.m.now in
+    let m = c.args.m.now in
     let e = c.phase-p.ensures in
     c.phase_data.ensures ∙ ap (λ (p : Phase). phase_data p (state_at m).registers.scsiid) e
     ∙ rw c.if-drives_data.true at (by_test (state_at m) (c.drives_data.ensures ∙ ap phase_drives e))

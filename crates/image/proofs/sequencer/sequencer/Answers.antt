@@ -8,8 +8,7 @@ use Rattle.image.proofs.sequencer.sequencer.Goals as goal
 pub returns : goal.returns
 unfolding state_at
 returns c =
-    let start = c.before.before.before.before.before.before.before.before.before.before in
-    let m = start.args.m.now in
+    let m = c.args.m.now in
     let v = get_or m sequencer_place 0 in
     λ i.
     record {

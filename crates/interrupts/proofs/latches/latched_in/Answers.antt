@@ -1,4 +1,5 @@
-use mathlib.Core.Path.{◌∙◌}
+use mathlib.Core.Path.{ap, sym, ◌∙◌}
+use mathlib.Core.Bool.{not}
 use lib.ListN.{get_or}
 use borrow.Author.Rules.{rules}
 use Rattle.rules.specs.Registers.{simode0_of, simode1_of}
@@ -11,22 +12,18 @@ use Rattle.interrupts.proofs.latches.latched_in.Goals as goal
 
 pub returns-then-enables0-before0 : goal.returns-then-enables0-before0
 returns-then-enables0-before0 c =
-    let start = c.before.before.before.before in
-    let a = start.args in
+    let a = c.args in
     let m = a.m.now in
-    latches_left m start.requires _ (latches_at m ∙ latches_same a.before0 (get_or m simode0_place 0) a.before1 (get_or m simode1_place 0) a.status a.raised (latches_of (get_or m latches_place 0)) c.if-enables0-before0.true ∙ latches_from_at m a.before0 a.before1 a.status a.raised)
+    latches_left m c.requires _ (latches_at m ∙ latches_same a.before0 (get_or m simode0_place 0) a.before1 (get_or m simode1_place 0) a.status a.raised (latches_of (get_or m latches_place 0)) c.if-enables0-before0.true ∙ latches_from_at m a.before0 a.before1 a.status a.raised)
 
 pub returns-then-not-any_enable : goal.returns-then-not-any_enable
 returns-then-not-any_enable c =
-    let start = c.before.before.before.before.before.before in
-    let a = start.args in
+    let a = c.args in
     let m = a.m.now in
-    latches_left m start.requires _ (latches_at m ∙ latches_masked (simode0_of a.before0) (simode0_of (get_or m simode0_place 0)) (simode1_of a.before1) (simode1_of (get_or m simode1_place 0)) (status_of a.status) (status_of a.raised) (latches_of (get_or m latches_place 0)) (rw c.any_enable.ensures at c.if-not-any_enable.true) ∙ latches_from_at m a.before0 a.before1 a.status a.raised)
+    latches_left m c.requires _ (latches_at m ∙ latches_masked (simode0_of a.before0) (simode0_of (get_or m simode0_place 0)) (simode1_of a.before1) (simode1_of (get_or m simode1_place 0)) (status_of a.status) (status_of a.raised) (latches_of (get_or m latches_place 0)) (ap not (sym c.any_enable.ensures ∙ c.if-not-any_enable.true)) ∙ latches_from_at m a.before0 a.before1 a.status a.raised)
 
 pub returns : goal.returns
 returns c =
-    let made = c.before.before in
-    let start = made.before.before.before.before.before.before.before.before in
-    let a = start.args in
+    let a = c.args in
     let m = a.m.now in
-    latches_made m a.before0 a.before1 a.status a.raised made.latches_of_bytes-k.ensures c.latches_put.ensures
+    latches_made m a.before0 a.before1 a.status a.raised c.latches_of_bytes-k.ensures c.latches_put.ensures

@@ -6,5 +6,4 @@ use Rattle.interrupts.proofs.latches.latches_written.Goals as goal
 pub returns : goal.returns
 unfolding latches_a clears clears_latch writes value_of
 returns c =
-    let a = c.before.before.before.before.before.before in
-    rw (a.offset_of.ensures, a.offset_of-2.ensures)
+    rw (c.offset_of.ensures, c.offset_of-2.ensures)

@@ -10,8 +10,6 @@ use Rattle.interrupts.proofs.latches.latches_written_in.Goals as goal
 
 pub returns : goal.returns
 returns c =
-    let written = c.before.before in
-    let unpacked = written.before in
-    let a = unpacked.args in
+    let a = c.args in
     let m = a.m.now in
-    latches_as (state_at m) (written.latches_written-k.ensures ∙ ap (λ (k : Latches). latches_a k (Write a.offset a.value)) (unpacked.latches_of.ensures ∙ sym (latches_at m))) c.latches_put.ensures
+    latches_as (state_at m) (c.latches_written-k.ensures ∙ ap (λ (k : Latches). latches_a k (Write a.offset a.value)) (c.latches_of.ensures ∙ sym (latches_at m))) c.latches_put.ensures

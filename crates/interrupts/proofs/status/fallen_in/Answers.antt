@@ -1,4 +1,5 @@
 use mathlib.Core.Path.{ap, sym, ◌∙◌}
+use mathlib.Core.Bool.{not}
 use borrow.Author.Rules.{rules}
 use Rattle.image.specs.Image.{state_at}
 use Rattle.image.proofs.AtPlaces.{status_at}
@@ -8,22 +9,15 @@ use Rattle.interrupts.proofs.status.fallen_in.Goals as goal
 
 pub returns-then-not-reqinit : goal.returns-then-not-reqinit
 returns-then-not-reqinit c =
-    let start = c.before.before in
-    let m = start.args.m.now in
-    status_left m start.requires _ (no_request _ _ c.reqinit.ensures c.if-not-reqinit.true)
+    let m = c.args.m.now in
+    status_left m c.requires _ (no_request _ _ c.reqinit.ensures (ap not c.if-not-reqinit.true))
 
 pub returns-then-acks-seen : goal.returns-then-acks-seen
 returns-then-acks-seen c =
-    let asked = c.before in
-    let start = asked.before.before.before in
-    let m = start.args.m.now in
-    status_left m start.requires _ (no_ack start.args.acks _ asked.ack_seen-seen.ensures c.if-acks-seen.true)
+    let m = c.args.m.now in
+    status_left m c.requires _ (no_ack c.args.acks _ c.ack_seen-seen.ensures c.if-acks-seen.true)
 
 pub returns : goal.returns
 returns c =
-    let unpacked = c.before.before in
-    let tested = unpacked.before.before.before in
-    let asked = tested.before in
-    let start = asked.before.before.before in
-    let m = start.args.m.now in
-    status_as (state_at m) (ap without_reqinit (unpacked.status_of-t.ensures ∙ sym (status_at m)) ∙ falls start.args.acks _ asked.ack_seen-seen.ensures tested.if-acks-seen.false) c.status_put.ensures
+    let m = c.args.m.now in
+    status_as (state_at m) (ap without_reqinit (c.status_of-t.ensures ∙ sym (status_at m)) ∙ falls c.args.acks _ c.ack_seen-seen.ensures c.if-acks-seen.false) c.status_put.ensures

@@ -15,17 +15,14 @@ by_tests r f g h = rw (f, ← g, h)
 pub returns-then-scsien : goal.returns-then-scsien
 unfolding state_at
 returns-then-scsien c =
-    let on = c.before in
-    let tested = on.before.before in
-    let m = tested.args.m.now in
-    rw tested.if-normal.true at (by_tests (registers_at m) tested.normal.ensures (sym on.scsien.ensures ∙ on.if-scsien.true) c.path.ensures)
+    let m = c.args.m.now in
+    rw c.if-normal.true at (by_tests (registers_at m) c.normal.ensures (sym c.scsien.ensures ∙ c.if-scsien.true) c.path.ensures)
 
 pub returns-else-scsien : goal.returns-else-scsien
 unfolding state_at
 returns-else-scsien c =
-    let tested = c.before.before in
-    let m = tested.args.m.now in
-    rw tested.if-normal.true at (by_tests (registers_at m) tested.normal.ensures (sym c.scsien.ensures ∙ c.if-scsien.false) refl)
+    let m = c.args.m.now in
+    rw c.if-normal.true at (by_tests (registers_at m) c.normal.ensures (sym c.scsien.ensures ∙ c.if-scsien.false) refl)
 
 pub returns-else-normal : goal.returns-else-normal
 returns-else-normal c = rw c.if-normal.false at (by_tests (registers_at c.args.m.now) c.normal.ensures refl refl)

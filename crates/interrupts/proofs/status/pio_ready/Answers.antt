@@ -15,10 +15,8 @@ by_tests s e f g h = rw (e, f, g, h)
 pub returns-then-automatic : goal.returns-then-automatic
 unfolding state_at
 returns-then-automatic c =
-    let looked = c.before.before in
-    let tested = looked.before in
-    let m = tested.args.m.now in
-    rw tested.if-automatic.true at (by_tests (state_at m) tested.automatic.ensures looked.matched.ensures c.req_seen.ensures c.automatic_ack.ensures)
+    let m = c.args.m.now in
+    rw c.if-automatic.true at (by_tests (state_at m) c.automatic.ensures c.matched.ensures c.req_seen.ensures c.automatic_ack.ensures)
 
 pub returns-else-automatic : goal.returns-else-automatic
 unfolding state_at

@@ -11,40 +11,26 @@ use Rattle.interrupts.proofs.status.raised_in.Goals as goal
 pub returns-then-is_raised : goal.returns-then-is_raised
 unfolding state_at
 returns-then-is_raised c =
-    let looked = c.before in
-    let start = looked.before in
-    let m = start.args.m.now in
-    let both = sym looked.is_raised.ensures ∙ c.if-is_raised.true in
+    let m = c.args.m.now in
+    let both = sym c.is_raised.ensures ∙ c.if-is_raised.true in
     let s = state_at m in
-    status_left m start.requires _ (raised_before s (left_true s.status.spiordy (automatic s.registers) both) (right_true s.status.spiordy (automatic s.registers) both))
+    status_left m c.requires _ (raised_before s (left_true s.status.spiordy (automatic s.registers) both) (right_true s.status.spiordy (automatic s.registers) both))
 
 pub returns-then-pio_ready : goal.returns-then-pio_ready
 unfolding state_at
 returns-then-pio_ready c =
-    let unpacked = c.before.before in
-    let branch = unpacked.before.before.before in
-    let ready = branch.before in
-    let m = ready.args.m.now in
-    let rises = sym ready.pio_ready.ensures ∙ branch.if-pio_ready.true in
-    status_as (state_at m) (raised_at m (sym rises) (sym (no_conflict (state_at m) rises)) unpacked.status_of-t.ensures) c.status_put.ensures
+    let m = c.args.m.now in
+    let rises = sym c.pio_ready.ensures ∙ c.if-pio_ready.true in
+    status_as (state_at m) (raised_at m (sym rises) (sym (no_conflict (state_at m) rises)) c.status_of-t.ensures) c.status_put.ensures
 
 pub returns-then-fifo_conflict : goal.returns-then-fifo_conflict
 unfolding state_at
 returns-then-fifo_conflict c =
-    let unpacked = c.before.before in
-    let branch = unpacked.before.before.before in
-    let conflict = branch.before in
-    let other = conflict.before in
-    let ready = other.before in
-    let m = ready.args.m.now in
-    status_as (state_at m) (raised_at m (sym other.if-pio_ready.false ∙ ready.pio_ready.ensures) (sym branch.if-fifo_conflict.true ∙ conflict.fifo_conflict.ensures) unpacked.status_of-t-then-fifo_conflict.ensures) c.status_put-then-fifo_conflict.ensures
+    let m = c.args.m.now in
+    status_as (state_at m) (raised_at m (sym c.if-pio_ready.false ∙ c.pio_ready.ensures) (sym c.if-fifo_conflict.true ∙ c.fifo_conflict.ensures) c.status_of-t-then-fifo_conflict.ensures) c.status_put-then-fifo_conflict.ensures
 
 pub returns-else-fifo_conflict : goal.returns-else-fifo_conflict
 unfolding state_at
 returns-else-fifo_conflict c =
-    let conflict = c.before in
-    let other = conflict.before in
-    let ready = other.before in
-    let start = ready.before.before.before in
-    let m = start.args.m.now in
-    status_left m start.requires _ (status_at m ∙ raised_at m (sym other.if-pio_ready.false ∙ ready.pio_ready.ensures) (sym c.if-fifo_conflict.false ∙ conflict.fifo_conflict.ensures) refl)
+    let m = c.args.m.now in
+    status_left m c.requires _ (status_at m ∙ raised_at m (sym c.if-pio_ready.false ∙ c.pio_ready.ensures) (sym c.if-fifo_conflict.false ∙ c.fifo_conflict.ensures) refl)

@@ -9,7 +9,5 @@ use Rattle.interrupts.proofs.status.status_written.Goals as goal
 pub returns : goal.returns
 unfolding error_a status_a clears clears_error writes value_of
 returns c =
-    let error = c.before.before.before.before.before.before in
-    let second = error.before in
-    let a = second.args in
-    rw (error.error_written-error.ensures, second.offset_of.ensures, second.offset_of-2.ensures, and-true (not (eqb a.offset 0x0C && bit a.value 0)))
+    let a = c.args in
+    rw (c.error_written-error.ensures, c.offset_of.ensures, c.offset_of-2.ensures, and-true (not (eqb a.offset 0x0C && bit a.value 0)))

@@ -10,11 +10,7 @@ use Rattle.interrupts.proofs.status.status_written_in.Goals as goal
 
 pub returns : goal.returns
 returns c =
-    let written = c.before.before in
-    let unpacked = written.before in
-    let looked = unpacked.before.before.before in
-    let checked = looked.before in
-    let a = checked.args in
+    let a = c.args in
     let m = a.m.now in
-    let status = unpacked.status_of.ensures ∙ sym (status_at m) in
-    status_as (state_at m) (written.status_written-t.ensures ∙ (λ i. status_a false false (checked.enspchk-enspchk.ensures i) (looked.kept_bad-kept.ensures i) (status i) (Write a.offset a.value))) c.status_put.ensures
+    let status = c.status_of.ensures ∙ sym (status_at m) in
+    status_as (state_at m) (c.status_written-t.ensures ∙ (λ i. status_a false false (c.enspchk-enspchk.ensures i) (c.kept_bad-kept.ensures i) (status i) (Write a.offset a.value))) c.status_put.ensures

@@ -32,32 +32,25 @@ parity_by s e f h = rw (← e, ← f) h
 pub returns : goal.returns
 unfolding answer_with state_at
 returns c =
-    let reset = c.before.before.before.before.before in
-    let control = reset.before in
-    let parity = control.before in
-    let byte = parity.before in
-    let judged = byte.before in
-    let interrupt = judged.before in
-    let s = interrupt.before in
-    let m = s.args.m.now in
-    let drives = judged.is_driving-driving.ensures in
-    let driven = data_by (state_at m) drives byte.byte_driven-driven.ensures in
+    let m = c.args.m.now in
+    let drives = c.is_driving-driving.ensures in
+    let driven = data_by (state_at m) drives c.byte_driven-driven.ensures in
     c.answer_bytes.ensures
     ∙ ap answer_bytes
     (λ i.
     record {
-      code = s.args.code;
-      irq = interrupt.irq-irq.ensures i;
-      acks = s.args.acks;
-      moves = s.args.moves;
+      code = c.args.code;
+      irq = c.irq-irq.ensures i;
+      acks = c.args.acks;
+      moves = c.args.moves;
       driving = drives i;
-      rst = reset.scsirsto-rst.ensures i;
-      parity = parity_by (state_at m) drives driven parity.parity_of-parity.ensures i;
-      value = s.args.value;
-      control = control.control_driven-control.ensures i;
+      rst = c.scsirsto-rst.ensures i;
+      parity = parity_by (state_at m) drives driven c.parity_of-parity.ensures i;
+      value = c.args.value;
+      control = c.control_driven-control.ensures i;
       driven = driven i;
       offset = get_or m offset_place 0;
-      scsi = at_scsi m s.requires i;
-      host = at_host m s.requires i;
-      sent = s.args.sent;
+      scsi = at_scsi m c.requires i;
+      host = at_host m c.requires i;
+      sent = c.args.sent;
     })

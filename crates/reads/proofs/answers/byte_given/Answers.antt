@@ -17,8 +17,7 @@ by_tests s e f = rw (e, f)
 pub returns-then-drives_data : goal.returns-then-drives_data
 unfolding state_at
 returns-then-drives_data c =
-    let start = c.before.before.before.before.before.before in
-    let m = start.args.m.now in
+    let m = c.args.m.now in
     let e = c.phase-p.ensures in
     c.phase_data.ensures ∙ ap (λ (p : Phase). phase_data p (state_at m).registers.scsiid) e
     ∙ rw c.if-drives_data.true at (by_tests (state_at m) (c.drives_data.ensures ∙ ap phase_drives e) refl)
@@ -26,13 +25,11 @@ returns-then-drives_data c =
 pub returns-then-normal : goal.returns-then-normal
 unfolding state_at
 returns-then-normal c =
-    let tested = c.before.before.before.before in
-    let m = tested.args.m.now in
-    rw (tested.if-drives_data.false, c.if-normal.true) at (by_tests (state_at m) (tested.drives_data.ensures ∙ ap phase_drives tested.phase-p.ensures) c.normal.ensures)
+    let m = c.args.m.now in
+    rw (c.if-drives_data.false, c.if-normal.true) at (by_tests (state_at m) (c.drives_data.ensures ∙ ap phase_drives c.phase-p.ensures) c.normal.ensures)
 
 pub returns-else-normal : goal.returns-else-normal
 unfolding state_at
 returns-else-normal c =
-    let tested = c.before.before.before.before in
-    let m = tested.args.m.now in
-    rw (tested.if-drives_data.false, c.if-normal.false) at (by_tests (state_at m) (tested.drives_data.ensures ∙ ap phase_drives tested.phase-p.ensures) c.normal.ensures)
+    let m = c.args.m.now in
+    rw (c.if-drives_data.false, c.if-normal.false) at (by_tests (state_at m) (c.drives_data.ensures ∙ ap phase_drives c.phase-p.ensures) c.normal.ensures)

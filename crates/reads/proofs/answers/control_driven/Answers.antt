@@ -30,17 +30,13 @@ idle_bsy e = sym (ap phase_bsy e)
 pub returns-then-m-eq0 : goal.returns-then-m-eq0
 unfolding state_at
 returns-then-m-eq0 c =
-    let tested = c.before in
-    let m = tested.args.m.now in
-    let e : (state_at m).sequencer.phase ≡ Idle = ap phase_of tested.if-m-eq0.true in
+    let m = c.args.m.now in
+    let e : (state_at m).sequencer.phase ≡ Idle = ap phase_of c.if-m-eq0.true in
     c.control_with.ensures ∙ by_lines (state_at m) (idle_sel e) (idle_bsy e)
 
 pub returns-else-m-eq0 : goal.returns-else-m-eq0
 returns-else-m-eq0 c =
-    let bsy = c.before in
-    let sel = bsy.before in
-    let phase = sel.before in
-    let m = phase.args.m.now in
-    let e = phase.phase-p.ensures in
+    let m = c.args.m.now in
+    let e = c.phase-p.ensures in
     c.control_with-else-m-eq0.ensures
-    ∙ by_lines (state_at m) (sel.drives_sel-sel.ensures ∙ ap phase_sel e) (bsy.drives_bsy-bsy.ensures ∙ ap phase_bsy e)
+    ∙ by_lines (state_at m) (c.drives_sel-sel.ensures ∙ ap phase_sel e) (c.drives_bsy-bsy.ensures ∙ ap phase_bsy e)

@@ -17,10 +17,7 @@ undriven s h k = rw (k, h, and-false)
 
 pub returns-then-io_seen-drives_data : goal.returns-then-io_seen-drives_data
 returns-then-io_seen-drives_data c =
-    let drives = c.before in
-    let phase = drives.before in
-    let io = phase.before in
-    let m = io.args.m.now in
+    let m = c.args.m.now in
     let both = c.if-io_seen-drives_data.true in
-    undriven (state_at m) (sym io.io_seen.ensures ∙ left_true io.io_seen.result _ both)
-    (sym (drives.drives_data.ensures ∙ ap phase_drives phase.phase.ensures) ∙ not_true drives.drives_data.result (right_true io.io_seen.result _ both))
+    undriven (state_at m) (sym c.io_seen.ensures ∙ left_true c.io_seen.result _ both)
+    (sym (c.drives_data.ensures ∙ ap phase_drives c.phase.ensures) ∙ not_true c.drives_data.result (right_true c.io_seen.result _ both))

@@ -8,12 +8,9 @@ use Rattle.reads.proofs.interrupts.instat.Goals as goal
 pub returns-then-at_once : goal.returns-then-at_once
 unfolding instat
 returns-then-at_once c =
-    let looked = c.before in
-    at_once _ (ap₂ ◌||◌ looked.any_latch.ensures looked.any_selection.ensures) looked.swint.ensures c.if-at_once.true
+    at_once _ (ap₂ ◌||◌ c.any_latch.ensures c.any_selection.ensures) c.swint.ensures c.if-at_once.true
 
 pub returns-else-at_once : goal.returns-else-at_once
 unfolding instat
 returns-else-at_once c =
-    let tested = c.before in
-    let looked = tested.before in
-    not_at_once (ap₂ ◌||◌ looked.any_latch.ensures looked.any_selection.ensures) looked.swint.ensures tested.if-at_once.false c.enabled_phasemis.ensures
+    not_at_once (ap₂ ◌||◌ c.any_latch.ensures c.any_selection.ensures) c.swint.ensures c.if-at_once.false c.enabled_phasemis.ensures

@@ -10,8 +10,6 @@ use Rattle.reads.proofs.status.dmastat.Goals as goal
 pub returns : goal.returns
 unfolding dmastat
 returns c =
-    let write = c.before in
-    let instat = write.before.before.before in
-    let n = at_host instat.args.m.now instat.requires in
+    let n = at_host c.args.m.now c.requires in
     c.byte_of.ensures
-    ∙ (λ i. byte_of false (not (write.write-write.ensures i) && leb 2 (n i)) (instat.instat-instat.ensures i) (eqb (n i) 128) (eqb (n i) 0) (leb 64 (n i)) false false)
+    ∙ (λ i. byte_of false (not (c.write-write.ensures i) && leb 2 (n i)) (c.instat-instat.ensures i) (eqb (n i) 128) (eqb (n i) 0) (leb 64 (n i)) false false)

@@ -7,13 +7,6 @@ use Rattle.reads.proofs.status.scsisigi.Goals as goal
 pub returns : goal.returns
 unfolding scsisigi
 returns c =
-    let req = c.before in
-    let atn = req.before in
-    let msg = atn.before in
-    let io = msg.before in
-    let cd = io.before in
-    let ack = cd.before in
-    let bsy = ack.before in
     c.byte_of.ensures
     ∙ (λ i.
-    byte_of (cd.cd_seen-cd.ensures i) (io.io_seen-io.ensures i) (msg.msg_seen-msg.ensures i) (atn.atn_seen-atn.ensures i) (bsy.sel_seen-sel.ensures i) (bsy.bsy_seen-bsy.ensures i) (req.req_seen-req.ensures i) (ack.ack_seen-acked.ensures i))
+    byte_of (c.cd_seen-cd.ensures i) (c.io_seen-io.ensures i) (c.msg_seen-msg.ensures i) (c.atn_seen-atn.ensures i) (c.sel_seen-sel.ensures i) (c.bsy_seen-bsy.ensures i) (c.req_seen-req.ensures i) (c.ack_seen-acked.ensures i))

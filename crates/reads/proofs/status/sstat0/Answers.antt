@@ -8,8 +8,5 @@ use Rattle.reads.proofs.status.sstat0.Goals as goal
 pub returns : goal.returns
 unfolding sstat0
 returns c =
-    let ready = c.before in
-    let going = ready.before in
-    let inward = going.before in
     c.byte_of.ensures
-    ∙ (λ i. byte_of false (inward.seldo-seldo.ensures i) (inward.seldi-seldi.ensures i) (going.selingo-selingo.ensures i) false false (ready.spiordy-spiordy.ensures i) false)
+    ∙ (λ i. byte_of false (c.seldo-seldo.ensures i) (c.seldi-seldi.ensures i) (c.selingo-selingo.ensures i) false false (c.spiordy-spiordy.ensures i) false)

@@ -8,12 +8,6 @@ use Rattle.reads.proofs.status.sstat1.Goals as goal
 pub returns : goal.returns
 unfolding sstat1
 returns c =
-    let request = c.before in
-    let change = request.before in
-    let error = change.before in
-    let free = error.before in
-    let reset = free.before in
-    let mismatch = reset.before in
     c.byte_of.ensures
     ∙ (λ i.
-    byte_of (mismatch.selto-selto.ensures i) false (reset.scsirsti-scsirsti.ensures i) (mismatch.phasemis-phasemis.ensures i) (free.busfree-busfree.ensures i) (error.scsiperr-scsiperr.ensures i) (change.phasechg-phasechg.ensures i) (request.reqinit-reqinit.ensures i))
+    byte_of (c.selto-selto.ensures i) false (c.scsirsti-scsirsti.ensures i) (c.phasemis-phasemis.ensures i) (c.busfree-busfree.ensures i) (c.scsiperr-scsiperr.ensures i) (c.phasechg-phasechg.ensures i) (c.reqinit-reqinit.ensures i))

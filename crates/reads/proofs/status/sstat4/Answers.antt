@@ -8,6 +8,5 @@ use Rattle.reads.proofs.status.sstat4.Goals as goal
 pub returns : goal.returns
 unfolding sstat4
 returns c =
-    let b = c.before in
     c.byte_of.ensures
-    ∙ (λ i. byte_of false false false false false (b.syncerr-syncerr.ensures i) (b.fwerr-fwerr.ensures i) false)
+    ∙ (λ i. byte_of false false false false false (c.syncerr-syncerr.ensures i) (c.fwerr-fwerr.ensures i) false)

@@ -17,16 +17,13 @@ in_phase_lem m e = ap (λ (r : Phase). calm_in r (state_at m)) (sym e)
 pub returns-in-Idle : goal.returns-in-Idle
 unfolding calm_in state_at
 returns-in-Idle c =
-    let told = c.before.before in
-    (λ i. not (c.is_asked.ensures i) && not (c.called.ensures i)) ∙ in_phase_lem told.args.m.now told.in-Idle.is
+    (λ i. not (c.is_asked.ensures i) && not (c.called.ensures i)) ∙ in_phase_lem c.args.m.now c.in-Idle.is
 
 pub returns-in-Waiting : goal.returns-in-Waiting
 unfolding calm_in state_at
 returns-in-Waiting c =
-    let asked = c.before.before.before in
-    let told = asked.before in
-    let m = told.args.m.now in
-    (λ i. (asked.is_asked-in-Waiting.ensures i || leb 8 (get_or m quiet_place 0)) && not (c.called-in-Waiting.ensures i)) ∙ in_phase_lem m told.in-Waiting.is
+    let m = c.args.m.now in
+    (λ i. (c.is_asked-in-Waiting.ensures i || leb 8 (get_or m quiet_place 0)) && not (c.called-in-Waiting.ensures i)) ∙ in_phase_lem m c.in-Waiting.is
 
 pub returns-in-Arbitrating : goal.returns-in-Arbitrating
 unfolding calm_in state_at

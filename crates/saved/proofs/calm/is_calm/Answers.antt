@@ -21,14 +21,11 @@ heard s e = ap (λ (b : Bool). cond b (is_phase Idle s.sequencer.phase && not s.
 pub returns-then-rst_seen : goal.returns-then-rst_seen
 unfolding state_at
 returns-then-rst_seen c =
-    let idle = c.before.before in
-    let seen = idle.before.before in
-    let s = state_at seen.args.m.now in
-    let p = idle.is_phase.ensures ∙ ap (is_phase Idle) seen.phase-p.ensures in
-    (λ i. p i && not s.sequencer.status.selingo) ∙ silent s (sym seen.rst_seen.ensures ∙ idle.if-rst_seen.true)
+    let s = state_at c.args.m.now in
+    let p = c.is_phase.ensures ∙ ap (is_phase Idle) c.phase-p.ensures in
+    (λ i. p i && not s.sequencer.status.selingo) ∙ silent s (sym c.rst_seen.ensures ∙ c.if-rst_seen.true)
 
 pub returns-else-rst_seen : goal.returns-else-rst_seen
 returns-else-rst_seen c =
-    let seen = c.before.before in
-    let s = state_at seen.args.m.now in
-    c.calm_in.ensures ∙ ap (λ (p : Phase). calm_in p s) seen.phase-p.ensures ∙ heard s (sym seen.rst_seen.ensures ∙ c.if-rst_seen.false)
+    let s = state_at c.args.m.now in
+    c.calm_in.ensures ∙ ap (λ (p : Phase). calm_in p s) c.phase-p.ensures ∙ heard s (sym c.rst_seen.ensures ∙ c.if-rst_seen.false)

@@ -6,12 +6,10 @@ use Rattle.saved.proofs.rest.can_move.Goals as goal
 
 pub returns-then-c : goal.returns-then-c
 returns-then-c c =
-    let a = c.before.before.before.before.before in
-    let m = a.args.m.now in
-    move_out a.args.c (state_at m).transfer (at_host m a.requires) (at_scsi m a.requires) c.if-c.true
+    let m = c.args.m.now in
+    move_out c.args.c (state_at m).transfer (at_host m c.requires) (at_scsi m c.requires) c.if-c.true
 
 pub returns-else-c : goal.returns-else-c
 returns-else-c c =
-    let a = c.before.before.before.before.before in
-    let m = a.args.m.now in
-    move_in a.args.c (state_at m).transfer (at_host m a.requires) (at_scsi m a.requires) c.if-c.false
+    let m = c.args.m.now in
+    move_in c.args.c (state_at m).transfer (at_host m c.requires) (at_scsi m c.requires) c.if-c.false

@@ -6,8 +6,7 @@ use Rattle.saved.proofs.rest.is_settled.Goals as goal
 
 pub returns-then-path : goal.returns-then-path
 returns-then-path c =
-    let looked = c.before.before in
-    looked_settled (state_at looked.args.m.now) looked.conditions_of-c.ensures c.can_move.ensures c.can_handshake.ensures
+    looked_settled (state_at c.args.m.now) c.conditions_of-c.ensures c.can_move.ensures c.can_handshake.ensures
 
 pub returns-else-path : goal.returns-else-path
 unfolding state_at

@@ -7,8 +7,6 @@ use Rattle.saved.proofs.rest.status_shown.Goals as goal
 pub returns : goal.returns
 unfolding status_shown state_at
 returns c =
-    let acked = c.before.before in
-    let parity = acked.before.before in
     λ i.
-    (parity.enspchk.ensures i || not (parity.scsiperr.ensures i))
-    && ((not (acked.reqinit.ensures i) || not (acked.ack_seen.ensures i)) && (c.error_shown-error.ensures i && c.ready_shown-ready.ensures i))
+    (c.enspchk.ensures i || not (c.scsiperr.ensures i))
+    && ((not (c.reqinit.ensures i) || not (c.ack_seen.ensures i)) && (c.error_shown-error.ensures i && c.ready_shown-ready.ensures i))

@@ -15,21 +15,16 @@ returns-then-image-ne-SIZE c =
 
 pub returns-then-not-is_accepted : goal.returns-then-not-is_accepted
 returns-then-not-is_accepted c =
-    let tested = c.before.before in
-    let copy = tested.before.before.before in
-    let image = copy.args.image.now in
-    is_refused_lem image c.refused-then-not-is_accepted.ensures (copy_refused copy.copy.ensures tested.is_accepted.ensures c.if-not-is_accepted.true)
+    let image = c.args.image.now in
+    is_refused_lem image c.refused-then-not-is_accepted.ensures (copy_refused c.copy.ensures c.is_accepted.ensures c.if-not-is_accepted.true)
 
 pub load-chip-requires : goal.load-chip-requires
 load-chip-requires c =
-    let tested = c.before.before in
-    (accepted_acceptable _ tested.known.ensures.1 (copy_accepted refl tested.is_accepted.ensures c.if-not-is_accepted.false)).image
+    (accepted_acceptable _ c.known.ensures.1 (copy_accepted refl c.is_accepted.ensures c.if-not-is_accepted.false)).image
 
 pub returns : goal.returns
 returns c =
-    let tested = c.before.before in
-    let copy = tested.before.before.before in
-    let image = copy.args.image.now in
-    let e = copy.copy.ensures in
+    let image = c.args.image.now in
+    let e = c.copy.ensures in
     is_read image (c.load-chip.ensures ∙ ap (λ (m : List ℕ). chip_of (state_at m)) e)
-    (copy_accepted e tested.is_accepted.ensures c.if-not-is_accepted.false)
+    (copy_accepted e c.is_accepted.ensures c.if-not-is_accepted.false)

@@ -9,17 +9,9 @@ use Rattle.sequencer.proofs.called.called.Goals as goal
 pub returns : goal.returns
 unfolding state_at called
 returns c =
-    let bsy = c.before in
-    let io = bsy.before in
-    let sel = io.before.before in
-    let id = sel.before in
-    let own = id.before in
-    let byte = own.before.before in
-    let sig = byte.before.before in
-    let seq = sig.before.before in
     λ i.
-    (seq.scsiseq_of-q.ensures i).enrseli && sel.sel_of_others.ensures i && io.io_of_others.ensures i && (id.bit_of-id.ensures ∙ (λ j. bit (byte.wide.ensures j) (own.wide-2.ensures j))) i
-    && not (bsy.bsy_of_others.ensures i || (sig.scsisig_of-g.ensures i).bsyo)
+    (c.scsiseq_of-q.ensures i).enrseli && c.sel_of_others.ensures i && c.io_of_others.ensures i && (c.bit_of-id.ensures ∙ (λ j. bit (c.wide.ensures j) (c.wide-2.ensures j))) i
+    && not (c.bsy_of_others.ensures i || (c.scsisig_of-g.ensures i).bsyo)
 
 pub bounds-m-0 : goal.bounds-m-0
 unfolding state_at called

@@ -10,18 +10,15 @@ use Rattle.sequencer.specs.Since.{sequenced_in}
 use Rattle.sequencer.proofs.placed.sequenced_in.Goals as goal
 
 pub sequenced-x-requires : goal.sequenced-x-requires
-sequenced-x-requires c = c.before.requires.range.sequencer
+sequenced-x-requires c = c.requires.range.sequencer
 
 pub sequenced_put-requires : goal.sequenced_put-requires
 sequenced_put-requires c =
-    let read = c.before in
-    let start = read.before in
-    let a = start.args in
-    let i = start.requires.range in record { image = start.requires; ticks_lt_counter_size = subst (λ (y : Sequenced). y.sequencer.ticks < counter_size) (sym read.sequenced-x.ensures) (sequenced_fits (state_at a.m.now) a.tick a.before i.quiet i.sequencer).ticks }
+    let a = c.args in
+    let i = c.requires.range in record { image = c.requires; ticks_lt_counter_size = subst (λ (y : Sequenced). y.sequencer.ticks < counter_size) (sym c.sequenced-x.ensures) (sequenced_fits (state_at a.m.now) a.tick a.before i.quiet i.sequencer).ticks }
 
 pub returns : goal.returns
 unfolding after_sequencer
 returns c =
-    let read = c.before.before in
-    let a = read.args in
-    c.sequenced_put.ensures ∙ ap (λ (x : Sequenced). image_of (sequenced_in x (state_at a.m.now))) read.sequenced-x.ensures
+    let a = c.args in
+    c.sequenced_put.ensures ∙ ap (λ (x : Sequenced). image_of (sequenced_in x (state_at a.m.now))) c.sequenced-x.ensures

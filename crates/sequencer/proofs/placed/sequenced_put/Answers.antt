@@ -9,8 +9,6 @@ use Rattle.sequencer.proofs.placed.sequenced_put.Goals as goal
 pub returns : goal.returns
 unfolding state_at
 returns c =
-    let atn = c.before.before.before in
-    let enselo = atn.before.before in
-    let a = enselo.args in
-    (λ i. set (set (set (c.sequencer_put.ensures i) scsiseq_place (enselo.with_enselo-v.ensures i)) scsisig_place (atn.with_atn-w.ensures i)) quiet_place a.x.quiet)
+    let a = c.args in
+    (λ i. set (set (set (c.sequencer_put.ensures i) scsiseq_place (c.with_enselo-v.ensures i)) scsisig_place (c.with_atn-w.ensures i)) quiet_place a.x.quiet)
     ∙ sequenced_image a.x (state_at a.m.now)

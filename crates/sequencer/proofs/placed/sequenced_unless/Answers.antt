@@ -4,8 +4,7 @@ use Rattle.sequencer.proofs.placed.sequenced_unless.Goals as goal
 
 pub returns-then-not-rests : goal.returns-then-not-rests
 returns-then-not-rests c =
-    let moves = c.before.before in
-    rw moves.if-not-rests.true c.sequenced_in.ensures
+    rw c.if-not-rests.true c.sequenced_in.ensures
 
 pub returns-else-not-rests : goal.returns-else-not-rests
 returns-else-not-rests c = rw c.if-not-rests.false

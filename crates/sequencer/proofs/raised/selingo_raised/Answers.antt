@@ -5,7 +5,7 @@ use Rattle.sequencer.proofs.raised.selingo_raised.Goals as goal
 
 pub returns : goal.returns
 unfolding state_at selingo_raised
-returns c = cc
+returns c = rw (c.latch_raised-latch.ensures, c.simode0_of-enables.ensures)
 
 pub bounds-m-7 : goal.bounds-m-7
 unfolding state_at selingo_raised

@@ -5,7 +5,7 @@ use Rattle.sequencer.proofs.raised.selto_raised.Goals as goal
 
 pub returns : goal.returns
 unfolding state_at selto_raised
-returns c = cc
+returns c = rw (c.latch_raised-latch.ensures, c.simode1_of-enables.ensures)
 
 pub bounds-m-8 : goal.bounds-m-8
 unfolding state_at selto_raised

@@ -18,22 +18,12 @@ by_tests s x e f g = λ i. cond ((e i || f i) && g i) (connects s x) x
 
 pub returns-then-test : goal.returns-then-test
 returns-then-test c =
-    let bsy = c.before.before in
-    let second = bsy.before in
-    let first = second.before in
-    let phase = first.before in
-    let start = phase.before in
     c.connects.ensures
-    ∙ rw c.if-test.true at (by_tests (state_at start.args.m.now) start.args.x (first.is_phase.ensures ∙ ap (is_phase Selecting) phase.phase_in-p.ensures) (second.is_phase-2.ensures ∙ ap (is_phase Holding) phase.phase_in-p.ensures) bsy.bsy_of_others.ensures)
+    ∙ rw c.if-test.true at (by_tests (state_at c.args.m.now) c.args.x (c.is_phase.ensures ∙ ap (is_phase Selecting) c.phase_in-p.ensures) (c.is_phase-2.ensures ∙ ap (is_phase Holding) c.phase_in-p.ensures) c.bsy_of_others.ensures)
 
 pub returns-else-test : goal.returns-else-test
 returns-else-test c =
-    let bsy = c.before in
-    let second = bsy.before in
-    let first = second.before in
-    let phase = first.before in
-    let start = phase.before in
-    rw c.if-test.false at (by_tests (state_at start.args.m.now) start.args.x (first.is_phase.ensures ∙ ap (is_phase Selecting) phase.phase_in-p.ensures) (second.is_phase-2.ensures ∙ ap (is_phase Holding) phase.phase_in-p.ensures) bsy.bsy_of_others.ensures)
+    rw c.if-test.false at (by_tests (state_at c.args.m.now) c.args.x (c.is_phase.ensures ∙ ap (is_phase Selecting) c.phase_in-p.ensures) (c.is_phase-2.ensures ∙ ap (is_phase Holding) c.phase_in-p.ensures) c.bsy_of_others.ensures)
 
 pub phase_in-p-requires : goal.phase_in-p-requires
 unfolding selected

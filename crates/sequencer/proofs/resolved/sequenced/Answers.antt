@@ -21,24 +21,18 @@ few s e h = subst (λ (y : Sequenced). y.sequencer.ticks < counter_size) (sym e)
 
 pub ticked-y-requires : goal.ticked-y-requires
 ticked-y-requires c =
-    let start = c.before.before.before in
-    few (state_at start.args.m.now) c.sequenced_of-x.ensures start.requires
+    few (state_at c.args.m.now) c.sequenced_of-x.ensures c.requires
 
 pub returns-then-rst_seen : goal.returns-then-rst_seen
 returns-then-rst_seen c =
-    let seen = c.before.before in
-    let read = seen.before in
-    let a = read.args in
-    c.silenced.ensures ∙ ap silenced read.sequenced_of-x.ensures
-    ∙ rw c.if-rst_seen.true at (by_rst a.tick a.before (state_at a.m.now) seen.rst_seen.ensures)
+    let a = c.args in
+    c.silenced.ensures ∙ ap silenced c.sequenced_of-x.ensures
+    ∙ rw c.if-rst_seen.true at (by_rst a.tick a.before (state_at a.m.now) c.rst_seen.ensures)
 
 pub returns-else-rst_seen : goal.returns-else-rst_seen
 returns-else-rst_seen c =
-    let chosen = c.before.before in
-    let seen = chosen.before in
-    let read = seen.before in
-    let a = read.args in
+    let a = c.args in
     let s = state_at a.m.now in
     c.resolved.ensures
-    ∙ ap (resolved s) (c.ticked-y.ensures ∙ ap (λ (x : Sequenced). cond a.tick (tick_in x.sequencer.phase a.before s x) x) read.sequenced_of-x.ensures)
-    ∙ rw chosen.if-rst_seen.false at (by_rst a.tick a.before s seen.rst_seen.ensures)
+    ∙ ap (resolved s) (c.ticked-y.ensures ∙ ap (λ (x : Sequenced). cond a.tick (tick_in x.sequencer.phase a.before s x) x) c.sequenced_of-x.ensures)
+    ∙ rw c.if-rst_seen.false at (by_rst a.tick a.before s c.rst_seen.ensures)

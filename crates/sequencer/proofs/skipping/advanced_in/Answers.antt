@@ -32,28 +32,20 @@ quiet_image q n s = refl
 
 pub ticks_after-ticks-requires : goal.ticks_after-ticks-requires
 ticks_after-ticks-requires c =
-    let start = c.before.before.before in
-    let s = state_at start.args.m.now in
-    record { m_bound = start.requires.0.range.sequencer; k_lt_unreached = omega (arith, start.requires.1.1, (distance_bounded s).1) }
+    let s = state_at c.args.m.now in
+    record { m_bound = c.requires.image.range.sequencer; k_lt_unreached = omega (arith, c.requires.k_bound, (distance_bounded s).1) }
 
 pub sequencer_put-requires : goal.sequencer_put-requires
 sequencer_put-requires c =
-    let counted = c.before in
-    let after = counted.before.before in
-    let start = after.before.before in
-    let a = start.args in
-    let e = ap (λ (q : Sequencer). q.ticks) counted.in_ticks-q.ensures ∙ after.ticks_after-ticks.ensures in record { image = start.requires.image; ticks_lt_counter_size = subst (λ (n : ℕ). n < counter_size) (sym e) (ticks_fit (state_at a.m.now) a.k start.requires.at_rest start.requires.image.range start.requires.k_bound) }
+    let a = c.args in
+    let e = ap (λ (q : Sequencer). q.ticks) c.in_ticks-q.ensures ∙ c.ticks_after-ticks.ensures in record { image = c.requires.image; ticks_lt_counter_size = subst (λ (n : ℕ). n < counter_size) (sym e) (ticks_fit (state_at a.m.now) a.k c.requires.at_rest c.requires.image.range c.requires.k_bound) }
 
 pub returns : goal.returns
 unfolding advanced
 returns c =
-    let counted = c.before.before in
-    let read = counted.before in
-    let after = read.before in
-    let quiet = after.before in
-    let a = quiet.args in
+    let a = c.args in
     let s = state_at a.m.now in
-    let e = counted.in_ticks-q.ensures ∙ (λ i. in_ticks (after.ticks_after-ticks.ensures i) (read.sequencer.ensures i)) in
-    (λ i. set (c.sequencer_put.ensures i) quiet_place (quiet.quiet_after-quiet.ensures i))
-    ∙ quiet_image counted.in_ticks-q.result (quiet_after a.k s) s
+    let e = c.in_ticks-q.ensures ∙ (λ i. in_ticks (c.ticks_after-ticks.ensures i) (c.sequencer.ensures i)) in
+    (λ i. set (c.sequencer_put.ensures i) quiet_place (c.quiet_after-quiet.ensures i))
+    ∙ quiet_image c.in_ticks-q.result (quiet_after a.k s) s
     ∙ ap (λ (q : Sequencer). image_of (with_quiet (quiet_after a.k s) (with_sequencer q s))) e

@@ -15,12 +15,9 @@ by_test s e = ap (λ (b : Bool). cond (b || leb 8 s.quiet) unreached (8 - s.quie
 
 pub returns-then-bus_taken : goal.returns-then-bus_taken
 returns-then-bus_taken c =
-    let taken = c.before in
-    rw c.if-bus_taken.true at (by_test (state_at taken.args.m.now) taken.bus_taken.ensures)
+    rw c.if-bus_taken.true at (by_test (state_at c.args.m.now) c.bus_taken.ensures)
 
 pub returns-else-bus_taken : goal.returns-else-bus_taken
 unfolding state_at
 returns-else-bus_taken c =
-    let free = c.before.before.before in
-    let taken = free.before in
-    c.quiet_left.ensures ∙ rw free.if-bus_taken.false at (by_test (state_at taken.args.m.now) taken.bus_taken.ensures)
+    c.quiet_left.ensures ∙ rw c.if-bus_taken.false at (by_test (state_at c.args.m.now) c.bus_taken.ensures)

@@ -17,82 +17,53 @@ pub returns-in-Idle : goal.returns-in-Idle
 unfolding distance_in
 returns-in-Idle c =
     let told = c in
-    let free = told.before.before in
-    let spent = free.before in
-    let phase = spent.before in
-    let s = state_at phase.args.m.now in
-    free.bus_free_distance-free.ensures ∙ by_phase s told.in-Idle.is phase.phase-p.ensures
+    let s = state_at told.args.m.now in
+    told.bus_free_distance-free.ensures ∙ by_phase s told.in-Idle.is told.phase-p.ensures
 
 pub returns-in-Waiting : goal.returns-in-Waiting
 unfolding distance_in
 returns-in-Waiting c =
-    let told = c.before.before.before in
-    let free = told.before.before in
-    let spent = free.before in
-    let phase = spent.before in
-    let s = state_at phase.args.m.now in
+    let s = state_at c.args.m.now in
     c.picked.ensures
-    ∙ (λ j. cond (c.bus_waits.ensures j) ((c.delay_left.ensures ∙ ap (delay_left bus_free_delay) spent.ticks_spent-n.ensures) j) (free.bus_free_distance-free.ensures j))
-    ∙ by_phase s told.in-Waiting.is phase.phase-p.ensures
+    ∙ (λ j. cond (c.bus_waits.ensures j) ((c.delay_left.ensures ∙ ap (delay_left bus_free_delay) c.ticks_spent-n.ensures) j) (c.bus_free_distance-free.ensures j))
+    ∙ by_phase s c.in-Waiting.is c.phase-p.ensures
 
 pub returns-in-Arbitrating : goal.returns-in-Arbitrating
 unfolding distance_in
 returns-in-Arbitrating c =
-    let told = c.before in
-    let free = told.before.before in
-    let spent = free.before in
-    let phase = spent.before in
-    let s = state_at phase.args.m.now in
-    c.delay_left-in-Arbitrating.ensures ∙ ap (delay_left arbitration_delay) spent.ticks_spent-n.ensures ∙ by_phase s told.in-Arbitrating.is phase.phase-p.ensures
+    let s = state_at c.args.m.now in
+    c.delay_left-in-Arbitrating.ensures ∙ ap (delay_left arbitration_delay) c.ticks_spent-n.ensures ∙ by_phase s c.in-Arbitrating.is c.phase-p.ensures
 
 pub returns-in-Clearing : goal.returns-in-Clearing
 unfolding distance_in
 returns-in-Clearing c =
-    let told = c.before in
-    let free = told.before.before in
-    let spent = free.before in
-    let phase = spent.before in
-    let s = state_at phase.args.m.now in
-    c.delay_left-in-Clearing.ensures ∙ ap (delay_left clearing_delay) spent.ticks_spent-n.ensures ∙ by_phase s told.in-Clearing.is phase.phase-p.ensures
+    let s = state_at c.args.m.now in
+    c.delay_left-in-Clearing.ensures ∙ ap (delay_left clearing_delay) c.ticks_spent-n.ensures ∙ by_phase s c.in-Clearing.is c.phase-p.ensures
 
 pub returns-in-Selecting : goal.returns-in-Selecting
 unfolding distance_in
 returns-in-Selecting c =
-    let told = c.before.before.before.before in
-    let free = told.before.before in
-    let spent = free.before in
-    let phase = spent.before in
-    let s = state_at phase.args.m.now in
+    let s = state_at c.args.m.now in
     c.picked-in-Selecting.ensures
-    ∙ (λ j. cond (c.timer_runs.ensures j) ((c.delay_left-in-Selecting.ensures ∙ (λ h. delay_left (c.timeout.ensures h) (spent.ticks_spent-n.ensures h))) j) unreached)
-    ∙ by_phase s told.in-Selecting.is phase.phase-p.ensures
+    ∙ (λ j. cond (c.timer_runs.ensures j) ((c.delay_left-in-Selecting.ensures ∙ (λ h. delay_left (c.timeout.ensures h) (c.ticks_spent-n.ensures h))) j) unreached)
+    ∙ by_phase s c.in-Selecting.is c.phase-p.ensures
 
 pub returns-in-Holding : goal.returns-in-Holding
 unfolding distance_in
 returns-in-Holding c =
     let told = c in
-    let free = told.before.before in
-    let spent = free.before in
-    let phase = spent.before in
-    let s = state_at phase.args.m.now in
-    free.bus_free_distance-free.ensures ∙ by_phase s told.in-Holding.is phase.phase-p.ensures
+    let s = state_at told.args.m.now in
+    told.bus_free_distance-free.ensures ∙ by_phase s told.in-Holding.is told.phase-p.ensures
 
 pub returns-in-Answering : goal.returns-in-Answering
 unfolding distance_in
 returns-in-Answering c =
-    let told = c.before in
-    let free = told.before.before in
-    let spent = free.before in
-    let phase = spent.before in
-    let s = state_at phase.args.m.now in
-    c.delay_left-in-Answering.ensures ∙ ap (delay_left settle_delay) spent.ticks_spent-n.ensures ∙ by_phase s told.in-Answering.is phase.phase-p.ensures
+    let s = state_at c.args.m.now in
+    c.delay_left-in-Answering.ensures ∙ ap (delay_left settle_delay) c.ticks_spent-n.ensures ∙ by_phase s c.in-Answering.is c.phase-p.ensures
 
 pub returns-in-Answered : goal.returns-in-Answered
 unfolding distance_in
 returns-in-Answered c =
     let told = c in
-    let free = told.before.before in
-    let spent = free.before in
-    let phase = spent.before in
-    let s = state_at phase.args.m.now in
-    free.bus_free_distance-free.ensures ∙ by_phase s told.in-Answered.is phase.phase-p.ensures
+    let s = state_at told.args.m.now in
+    told.bus_free_distance-free.ensures ∙ by_phase s told.in-Answered.is told.phase-p.ensures

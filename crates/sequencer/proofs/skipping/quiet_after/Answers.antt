@@ -10,5 +10,4 @@ returns-then-bus_taken c = rw (← c.bus_taken.ensures, c.if-bus_taken.true)
 pub returns-else-bus_taken : goal.returns-else-bus_taken
 unfolding quiet_after state_at
 returns-else-bus_taken c =
-    let free = c.before.before.before in
-    rw (← free.bus_taken.ensures, free.if-bus_taken.false) c.added.ensures
+    rw (← c.bus_taken.ensures, c.if-bus_taken.false) c.added.ensures

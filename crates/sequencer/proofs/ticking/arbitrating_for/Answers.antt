@@ -11,9 +11,8 @@ use Rattle.sequencer.proofs.ticking.arbitrating_for.Goals as goal
 pub returns-then-n-ge48 : goal.returns-then-n-ge48
 unfolding arbitrating_for
 returns-then-n-ge48 c =
-    let start = c.before.before.before.before in
     let chosen = c.arbitrated-p.ensures ∙ ap (λ (b : Bool). cond b Waiting Clearing) c.higher_id.ensures in
-    rw (le-leb 48 start.args.n c.if-n-ge48.true) (c.entered.ensures ∙ ap (λ (p : Phase). entered p start.args.x) chosen)
+    rw (le-leb 48 c.args.n c.if-n-ge48.true) (c.entered.ensures ∙ ap (λ (p : Phase). entered p c.args.x) chosen)
 
 pub returns-else-n-ge48 : goal.returns-else-n-ge48
 unfolding arbitrating_for

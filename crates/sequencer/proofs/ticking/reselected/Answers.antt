@@ -9,10 +9,9 @@ pub returns : goal.returns
 unfolding state_at reselected
 returns c =
     let x = c.args.x in
-    let raised = c.before.before.before.before in
     λ i.
     record {
-      sequencer = (raised.seldi_raised-n.ensures ∙ ap (seldi_raised _ _) raised.in_phase.ensures) i;
+      sequencer = (c.seldi_raised-n.ensures ∙ ap (seldi_raised _ _) c.in_phase.ensures) i;
       enselo = x.enselo;
       atno = (c.scsiseq_of-control.ensures i).enautoatni || x.atno;
       quiet = x.quiet;

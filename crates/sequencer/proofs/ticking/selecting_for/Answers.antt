@@ -7,16 +7,14 @@ use Rattle.sequencer.proofs.ticking.selecting_for.Goals as goal
 pub returns-then-timeout-n : goal.returns-then-timeout-n
 unfolding selecting_for
 returns-then-timeout-n c =
-    let start = c.before.before.before in
     let t = c.timeout in
-    rw (← t.ensures, le-leb t.result start.args.n c.if-timeout-n.true) c.times_out.ensures
+    rw (← t.ensures, le-leb t.result c.args.n c.if-timeout-n.true) c.times_out.ensures
 
 pub returns-else-timeout-n : goal.returns-else-timeout-n
 unfolding selecting_for
 returns-else-timeout-n c =
-    let start = c.before.before.before in
     let t = c.timeout in
-    rw (← t.ensures, lt-leb t.result start.args.n c.if-timeout-n.false) c.waited.ensures
+    rw (← t.ensures, lt-leb t.result c.args.n c.if-timeout-n.false) c.waited.ensures
 
 pub timeout-requires : goal.timeout-requires
 unfolding selecting_for

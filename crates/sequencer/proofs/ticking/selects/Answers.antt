@@ -9,10 +9,9 @@ pub returns : goal.returns
 unfolding state_at selects
 returns c =
     let x = c.args.x in
-    let raised = c.before.before.before.before.before in
     λ i.
     record {
-      sequencer = (raised.selingo_raised-n.ensures ∙ ap (selingo_raised _) raised.in_phase.ensures) i;
+      sequencer = (c.selingo_raised-n.ensures ∙ ap (selingo_raised _) c.in_phase.ensures) i;
       enselo = x.enselo;
       atno = (c.scsiseq_of-control.ensures i).enautoatno || x.atno;
       quiet = x.quiet;

@@ -10,10 +10,8 @@ use Rattle.sequencer.proofs.ticking.times_out.Goals as goal
 pub returns : goal.returns
 unfolding state_at times_out
 returns c =
-    let start = c.before.before.before.before.before.before.before in
-    let x = start.args.x in
-    let told = c.before.before.before in
-    let chosen = told.timed_out-p.ensures ∙ (λ j. cond (told.simode1_of-enables.ensures j).enseltimo Idle Holding) in
+    let x = c.args.x in
+    let chosen = c.timed_out-p.ensures ∙ (λ j. cond (c.simode1_of-enables.ensures j).enseltimo Idle Holding) in
     λ i.
     record {
       sequencer = (c.selto_raised-n.ensures ∙ ap (selto_raised _) (c.in_phase.ensures ∙ ap (λ (p : Phase). in_phase p x.sequencer) chosen)) i;

@@ -11,35 +11,27 @@ use Rattle.settling.proofs.moves.carried_out.Goals.{After-wide-held}
 -- the count that is read
 fifo_counts : (c : After-wide-held) → c.wide-held.result ≡ length (state_at c.args.m.now).transfer.scsi
 fifo_counts c =
-    let a = c.before.before.before in
-    c.wide-held.ensures ∙ scsi_held a.args.m.now a.requires.image
+    c.wide-held.ensures ∙ scsi_held c.args.m.now c.requires.image
 
 pub overflow_add-held : goal.overflow_add-held
-overflow_add-held c = omega (arith, fifo_counts c.before, c.requires.k_len_bound)
+overflow_add-held c = omega (arith, fifo_counts (goal.at.overflow_add-held c).After-wide-held, c.requires.k_len_bound)
 
 pub copied-requires : goal.copied-requires
 copied-requires c =
-    let a = c.before.before.before.before in
-    let f = a.requires.image.range.transfer in
-    let q = fifo_counts c.before in
-    record { m_len = long a.args.m.now a.requires.image; n_bound = omega (arith, f.host, a.requires.k_in_bounds); n_bound_2 = omega (arith, a.requires.k_len_bound); n_bound_3 = λ l. absurd (omega arith) }
+    let f = c.requires.image.range.transfer in
+    let q = fifo_counts (goal.at.copied-requires c).After-wide-held in
+    record { m_len = long c.args.m.now c.requires.image; n_bound = omega (arith, f.host, c.requires.k_in_bounds); n_bound_2 = omega (arith, c.requires.k_len_bound); n_bound_3 = λ l. absurd (omega arith) }
 
 pub overflow_add-m : goal.overflow_add-m
-overflow_add-m c = omega (arith, fifo_counts c.before.before, c.requires.k_len_bound)
+overflow_add-m c = omega (arith, fifo_counts (goal.at.overflow_add-m c).After-wide-held, c.requires.k_len_bound)
 
 pub overflow_cast-m : goal.overflow_cast-m
-overflow_cast-m c = omega (arith, fifo_counts c.before.before, c.requires.k_len_bound)
+overflow_cast-m c = omega (arith, fifo_counts (goal.at.overflow_cast-m c).After-wide-held, c.requires.k_len_bound)
 
 pub host_popped-requires : goal.host_popped-requires
 host_popped-requires c =
-    let k = c.before.before in
-    let w = k.before.before in
-    let a = w.before.before.before in
-    let m = a.args.m.now in record { image = (behind_scsi m k.copied.new.m a.args.k w.wide-held.result a.requires.image w.wide-held.ensures a.requires.k_in_bounds a.requires.k_len_bound k.copied.ensures).0; k_bound = omega (arith, host_there m k.copied.new.m a.args.k w.wide-held.result a.requires.image w.wide-held.ensures a.requires.k_in_bounds a.requires.k_len_bound k.copied.ensures) }
+    let m = c.args.m.now in record { image = (behind_scsi m c.copied.new.m c.args.k c.wide-held.result c.requires.image c.wide-held.ensures c.requires.k_in_bounds c.requires.k_len_bound c.copied.ensures).0; k_bound = omega (arith, host_there m c.copied.new.m c.args.k c.wide-held.result c.requires.image c.wide-held.ensures c.requires.k_in_bounds c.requires.k_len_bound c.copied.ensures) }
 
 pub returns : goal.returns
 returns c =
-    let k = c.before.before.before in
-    let w = k.before.before in
-    let a = w.before.before.before in
-    carried_out a.args.m.now k.copied.new.m a.args.k w.wide-held.result a.requires.image w.wide-held.ensures a.requires.k_in_bounds a.requires.k_len_bound k.copied.ensures c.host_popped.new.m c.host_popped.ensures
+    carried_out c.args.m.now c.copied.new.m c.args.k c.wide-held.result c.requires.image c.wide-held.ensures c.requires.k_in_bounds c.requires.k_len_bound c.copied.ensures c.host_popped.new.m c.host_popped.ensures

@@ -8,15 +8,13 @@ use Rattle.settling.proofs.moves.carried_run.Goals as goal
 
 pub carried_out-requires : goal.carried_out-requires
 carried_out-requires c =
-    let a = c.before.before in
-    let r = run_out a.args.c (state_at a.args.m.now).transfer a.args.k a.requires.k_bound a.requires.image.range.transfer.scsi c.if-c.true in
-    record { image = a.requires.image; k_in_bounds = r.0; k_len_bound = r.1 }
+    let r = run_out c.args.c (state_at c.args.m.now).transfer c.args.k c.requires.k_bound c.requires.image.range.transfer.scsi c.if-c.true in
+    record { image = c.requires.image; k_in_bounds = r.0; k_len_bound = r.1 }
 
 pub carried_in-requires : goal.carried_in-requires
 carried_in-requires c =
-    let a = c.before.before in
-    let r = run_in a.args.c (state_at a.args.m.now).transfer a.args.k a.requires.k_bound a.requires.image.range.transfer.scsi c.if-c.false a.requires.image.range.transfer.host in
-    record { image = a.requires.image; k_in_bounds = r.0; k_len_bound = r.1 }
+    let r = run_in c.args.c (state_at c.args.m.now).transfer c.args.k c.requires.k_bound c.requires.image.range.transfer.scsi c.if-c.false c.requires.image.range.transfer.host in
+    record { image = c.requires.image; k_in_bounds = r.0; k_len_bound = r.1 }
 
 pub returns-then-c : goal.returns-then-c
 returns-then-c c =

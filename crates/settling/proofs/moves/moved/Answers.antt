@@ -13,11 +13,10 @@ use Rattle.settling.proofs.moves.moved.Goals as goal
 
 pub returns-then-k-eq0 : goal.returns-then-k-eq0
 returns-then-k-eq0 c =
-    let a = c.before.before in
-    let n : 0 ≡ movable a.args.c (state_at a.args.m.now).transfer = sym c.if-k-eq0.true ∙ c.run_length-k.ensures in
+    let n : 0 ≡ movable c.args.c (state_at c.args.m.now).transfer = sym c.if-k-eq0.true ∙ c.run_length-k.ensures in
     record {
       made = n;
-      left = a.requires.packed ∙ ap (λ (t : Transfer). image_of (with_transfer t (state_at a.args.m.now))) (sym (carried_none a.args.c (state_at a.args.m.now).transfer) ∙ ap (λ (k : ℕ). carried a.args.c.outbound k (state_at a.args.m.now).transfer) n);
+      left = c.requires.packed ∙ ap (λ (t : Transfer). image_of (with_transfer t (state_at c.args.m.now))) (sym (carried_none c.args.c (state_at c.args.m.now).transfer) ∙ ap (λ (k : ℕ). carried c.args.c.outbound k (state_at c.args.m.now).transfer) n);
     }
 
 pub carried_run-requires : goal.carried_run-requires
@@ -25,15 +24,13 @@ carried_run-requires c = record { image = c.requires; k_bound = omega (arith, c.
 
 pub overflow_cast-result : goal.overflow_cast-result
 overflow_cast-result c =
-    let a = c.before.before.before.before in
     let k = c.run_length-k in
-    omega (arith, run_small a.args.c (state_at a.args.m.now).transfer k.result (omega (arith, k.ensures)) a.requires.range.transfer.scsi)
+    omega (arith, run_small c.args.c (state_at c.args.m.now).transfer k.result (omega (arith, k.ensures)) c.requires.range.transfer.scsi)
 
 pub returns : goal.returns
 returns c =
-    let a = c.before.before.before.before in
     let k = c.run_length-k in
     record {
       made = k.ensures;
-      left = c.carried_run.ensures ∙ ap (λ (n : ℕ). image_of (with_transfer (carried a.args.c.outbound n (state_at a.args.m.now).transfer) (state_at a.args.m.now))) k.ensures;
+      left = c.carried_run.ensures ∙ ap (λ (n : ℕ). image_of (with_transfer (carried c.args.c.outbound n (state_at c.args.m.now).transfer) (state_at c.args.m.now))) k.ensures;
     }

@@ -12,54 +12,46 @@ use Rattle.settling.proofs.moves.run_length.Goals.{After-wide-host}
 
 counted_scsi : (c : After-wide-host) → c.wide-scsi.result ≡ length (state_at c.args.m.now).transfer.scsi
 counted_scsi c =
-    let a = c.before.before.before.before.before in
-    c.wide-scsi.ensures ∙ scsi_held a.args.m.now a.requires
+    c.wide-scsi.ensures ∙ scsi_held c.args.m.now c.requires
 
 counted_host : (c : After-wide-host) → c.wide-host.result ≡ length (state_at c.args.m.now).transfer.host
 counted_host c =
-    let a = c.before.before.before.before.before in
-    c.wide-host.ensures ∙ host_held a.args.m.now a.requires
+    c.wide-host.ensures ∙ host_held c.args.m.now c.requires
 
 pub overflow_sub-scsi : goal.overflow_sub-scsi
 overflow_sub-scsi c =
-    let w = c.before.before.before in
-    omega (arith, counted_scsi w, w.requires.range.transfer.scsi)
+    omega (arith, counted_scsi (goal.at.overflow_sub-scsi c).After-wide-host, c.requires.range.transfer.scsi)
 
 pub overflow_sub-host : goal.overflow_sub-host
 overflow_sub-host c =
-    let w = c.before.before.before in
-    omega (arith, counted_host w, w.requires.range.transfer.host)
+    omega (arith, counted_host (goal.at.overflow_sub-host c).After-wide-host, c.requires.range.transfer.host)
 
 pub returns-then-host-eq0 : goal.returns-then-host-eq0
 unfolding movable
 returns-then-host-eq0 c =
-    let w = c.before.before.before in
-    let h = sym (counted_host w) ∙ c.if-host-eq0.true in
+    let h = sym (counted_host (goal.at.returns-then-host-eq0 c).After-wide-host) ∙ c.if-host-eq0.true in
     rw (c.if-c.true, c.if-c-2.true, h) (sym (zero-min _))
 
 pub returns-else-host-eq0 : goal.returns-else-host-eq0
 unfolding movable
 returns-else-host-eq0 c =
-    let w = c.before.before.before.before in
-    let h = counted_host w in
-    let q = counted_scsi w in
-    let e : c.smaller.result ≡ min w.wide-host.result (8 - w.wide-scsi.result) = c.smaller.ensures in
+    let h = counted_host (goal.at.returns-else-host-eq0 c).After-wide-host in
+    let q = counted_scsi (goal.at.returns-else-host-eq0 c).After-wide-host in
+    let e : c.smaller.result ≡ min c.wide-host.result (8 - c.wide-scsi.result) = c.smaller.ensures in
     rw (c.if-c.true, c.if-c-2.true) (cc)
 
 pub returns-then-scsi-eq0 : goal.returns-then-scsi-eq0
 unfolding movable
 returns-then-scsi-eq0 c =
-    let w = c.before.before.before in
-    let q = sym (counted_scsi w) ∙ c.if-scsi-eq0.true in
+    let q = sym (counted_scsi (goal.at.returns-then-scsi-eq0 c).After-wide-host) ∙ c.if-scsi-eq0.true in
     rw (c.if-c.true, c.if-c-2.false, q) (sym (zero-min _))
 
 pub returns-else-scsi-eq0 : goal.returns-else-scsi-eq0
 unfolding movable
 returns-else-scsi-eq0 c =
-    let w = c.before.before.before.before in
-    let h = counted_host w in
-    let q = counted_scsi w in
-    let e : c.smaller-else-scsi-eq0.result ≡ min w.wide-scsi.result (128 - w.wide-host.result) = c.smaller-else-scsi-eq0.ensures in
+    let h = counted_host (goal.at.returns-else-scsi-eq0 c).After-wide-host in
+    let q = counted_scsi (goal.at.returns-else-scsi-eq0 c).After-wide-host in
+    let e : c.smaller-else-scsi-eq0.result ≡ min c.wide-scsi.result (128 - c.wide-host.result) = c.smaller-else-scsi-eq0.ensures in
     rw (c.if-c.true, c.if-c-2.false) (cc)
 
 pub returns-else-c : goal.returns-else-c

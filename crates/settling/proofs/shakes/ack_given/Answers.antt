@@ -9,15 +9,12 @@ use Rattle.settling.proofs.shakes.ack_given.Goals as goal
 
 pub returns-then-synchronous : goal.returns-then-synchronous
 returns-then-synchronous c =
-    let k = c.before.before.before in
-    let a = k.before.before.before in
-    let s = state_at a.args.m.now in
-    ack_pulse s k.counter_stepped-passed.new.m c.less_one.result k.counter_stepped-passed.ensures.m_after c.less_one.ensures
-    ∙ ap (λ (y : Bool). image_of (with_transfer (acknowledged y s.transfer) s)) (sym k.if-synchronous.true)
+    let s = state_at c.args.m.now in
+    ack_pulse s c.counter_stepped-passed.new.m c.less_one.result c.counter_stepped-passed.ensures.m_after c.less_one.ensures
+    ∙ ap (λ (y : Bool). image_of (with_transfer (acknowledged y s.transfer) s)) (sym c.if-synchronous.true)
 
 pub returns-else-synchronous : goal.returns-else-synchronous
 returns-else-synchronous c =
-    let a = c.before.before.before in
-    let s = state_at a.args.m.now in
+    let s = state_at c.args.m.now in
     ack_on s c.acknowledged.new.m c.acknowledged.ensures
     ∙ ap (λ (y : Bool). image_of (with_transfer (acknowledged y s.transfer) s)) (sym c.if-synchronous.false)

@@ -18,45 +18,40 @@ use Rattle.settling.proofs.shakes.byte_passed.Goals as goal
 
 pub byte_sent-b-requires : goal.byte_sent-b-requires
 byte_sent-b-requires c =
-    let a = c.before.before in
-    record { image = a.requires.image; scsi_nonzero = handshake_outbound a.args.c (state_at a.args.m.now).transfer c.if-c.true a.requires.m_value }
+    record { image = c.requires.image; scsi_nonzero = handshake_outbound c.args.c (state_at c.args.m.now).transfer c.if-c.true c.requires.m_value }
 
 pub returns-then-c : goal.returns-then-c
 returns-then-c c =
-    let a = c.before.before.before.before in
     let o = c.if-c.true in
-    let t = (state_at a.args.m.now).transfer in
-    let v = sent_view a.args.sent in (
+    let t = (state_at c.args.m.now).transfer in
+    let v = sent_view c.args.sent in (
       c.one_more.ensures ∙ ap (λ (b : ℕ). sent_of (v ++ (b ∷ []))) c.byte_sent-b.ensures.0
-          ∙ ap (λ (l : List ℕ). sent_of (v ++ l)) (sym (take_one t.scsi (handshake_outbound a.args.c t o a.requires.m_value)))
+          ∙ ap (λ (l : List ℕ). sent_of (v ++ l)) (sym (take_one t.scsi (handshake_outbound c.args.c t o c.requires.m_value)))
           ∙ ap (λ (y : Bool). sent_of (cond y (v ++ take 1 t.scsi) v)) (sym o),
       c.byte_sent-b.ensures.1
-          ∙ ap (λ (x : Transfer). image_of (with_transfer x (state_at a.args.m.now))) (sym (pass_sent a.args.c.outbound (stored_by a.args.c) t o)),
+          ∙ ap (λ (x : Transfer). image_of (with_transfer x (state_at c.args.m.now))) (sym (pass_sent c.args.c.outbound (stored_by c.args.c) t o)),
     )
 
 pub returns-then-c-2 : goal.returns-then-c-2
 returns-then-c-2 c =
-    let a = c.before.before in
-    let t = (state_at a.args.m.now).transfer in
-    let v = sent_view a.args.sent in (
-      a.requires.sent_tidy ∙ ap (λ (y : Bool). sent_of (cond y (v ++ take 1 t.scsi) v)) (sym c.if-c.false),
-      a.requires.image.packed
-          ∙ ap (λ (x : Transfer). image_of (with_transfer x (state_at a.args.m.now))) (sym (pass_none a.args.c.outbound a.args.c.synchronous a.args.c.byte t c.if-c.false c.if-c-2.true)),
+    let t = (state_at c.args.m.now).transfer in
+    let v = sent_view c.args.sent in (
+      c.requires.sent_tidy ∙ ap (λ (y : Bool). sent_of (cond y (v ++ take 1 t.scsi) v)) (sym c.if-c.false),
+      c.requires.image.packed
+          ∙ ap (λ (x : Transfer). image_of (with_transfer x (state_at c.args.m.now))) (sym (pass_none c.args.c.outbound c.args.c.synchronous c.args.c.byte t c.if-c.false c.if-c-2.true)),
     )
 
 pub scsi_pushed-requires : goal.scsi_pushed-requires
 scsi_pushed-requires c =
-    let a = c.before.before.before in
-    let m = a.args.m.now in
-    record { image = a.requires.image; scsi_count_place_bound = omega (arith, scsi_held m a.requires.image, handshake_inbound a.args.c (state_at m).transfer c.if-c.false c.if-c-2.false a.requires.m_value) }
+    let m = c.args.m.now in
+    record { image = c.requires.image; scsi_count_place_bound = omega (arith, scsi_held m c.requires.image, handshake_inbound c.args.c (state_at m).transfer c.if-c.false c.if-c-2.false c.requires.m_value) }
 
 pub returns : goal.returns
 returns c =
-    let a = c.before.before.before.before in
     let o = c.if-c.false in
-    let t = (state_at a.args.m.now).transfer in
-    let v = sent_view a.args.sent in (
-      a.requires.sent_tidy ∙ ap (λ (y : Bool). sent_of (cond y (v ++ take 1 t.scsi) v)) (sym o),
+    let t = (state_at c.args.m.now).transfer in
+    let v = sent_view c.args.sent in (
+      c.requires.sent_tidy ∙ ap (λ (y : Bool). sent_of (cond y (v ++ take 1 t.scsi) v)) (sym o),
       c.scsi_pushed.ensures
-          ∙ ap (λ (x : Transfer). image_of (with_transfer x (state_at a.args.m.now))) (sym (pass_stored a.args.c.outbound a.args.c.synchronous a.args.c.byte (state_at a.args.m.now) o c.if-c-2.false)),
+          ∙ ap (λ (x : Transfer). image_of (with_transfer x (state_at c.args.m.now))) (sym (pass_stored c.args.c.outbound c.args.c.synchronous c.args.c.byte (state_at c.args.m.now) o c.if-c-2.false)),
     )

@@ -7,10 +7,8 @@ use Rattle.settling.proofs.shakes.byte_sent.Goals as goal
 
 pub overflow_sub-m : goal.overflow_sub-m
 overflow_sub-m c =
-    let a = c.before.before.before.before.before.before.before.before.before.before in
-    omega (arith, scsi_held a.args.m.now a.requires.image, a.requires.scsi_nonzero)
+    omega (arith, scsi_held c.args.m.now c.requires.image, c.requires.scsi_nonzero)
 
 pub returns : goal.returns
 returns c =
-    let a = c.before.before.before.before.before.before.before.before.before.before in
-    (byte_oldest a.args.m.now a.requires.image a.requires.scsi_nonzero, byte_sent a.args.m.now a.requires.image _ _ refl refl a.requires.scsi_nonzero)
+    (byte_oldest c.args.m.now c.requires.image c.requires.scsi_nonzero, byte_sent c.args.m.now c.requires.image _ _ refl refl c.requires.scsi_nonzero)

@@ -7,14 +7,12 @@ use Rattle.settling.proofs.shakes.can_asynchronous.Goals as goal
 
 pub returns-then-c : goal.returns-then-c
 returns-then-c c =
-    let a = c.before.before.before.before.before in
-    let q = scsi_held a.args.m.now a.requires in
-    let e = asynchronous_by a.args.c (state_at a.args.m.now).transfer true c.if-c.true in
+    let q = scsi_held c.args.m.now c.requires in
+    let e = asynchronous_by c.args.c (state_at c.args.m.now).transfer true c.if-c.true in
     cc
 
 pub returns-else-c : goal.returns-else-c
 returns-else-c c =
-    let a = c.before.before.before.before.before in
-    let q = scsi_held a.args.m.now a.requires in
-    let e = asynchronous_by a.args.c (state_at a.args.m.now).transfer false c.if-c.false in
+    let q = scsi_held c.args.m.now c.requires in
+    let e = asynchronous_by c.args.c (state_at c.args.m.now).transfer false c.if-c.false in
     cc

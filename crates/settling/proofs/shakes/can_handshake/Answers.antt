@@ -7,12 +7,10 @@ use Rattle.settling.proofs.shakes.can_handshake.Goals as goal
 
 pub returns-then-c : goal.returns-then-c
 returns-then-c c =
-    let a = c.before.before.before in
-    ap (λ (b : Bool). a.args.c.enabled && b) c.can_synchronous.ensures
-    ∙ sym (handshake_by a.args.c (state_at a.args.m.now).transfer true c.if-c.true)
+    ap (λ (b : Bool). c.args.c.enabled && b) c.can_synchronous.ensures
+    ∙ sym (handshake_by c.args.c (state_at c.args.m.now).transfer true c.if-c.true)
 
 pub returns-else-c : goal.returns-else-c
 returns-else-c c =
-    let a = c.before.before.before in
-    ap (λ (b : Bool). a.args.c.enabled && b) c.can_asynchronous.ensures
-    ∙ sym (handshake_by a.args.c (state_at a.args.m.now).transfer false c.if-c.false)
+    ap (λ (b : Bool). c.args.c.enabled && b) c.can_asynchronous.ensures
+    ∙ sym (handshake_by c.args.c (state_at c.args.m.now).transfer false c.if-c.false)

@@ -17,8 +17,7 @@ use Rattle.step.proofs.run.answered.Goals as goal
 
 pub loop-i-init : goal.loop-i-init
 loop-i-init c =
-    let start = c.before.before.before in
-    let sound = start.requires in (
+    let sound = c.requires in (
       search rules,
       c.smaller-n.ensures,
       omega arith,
@@ -58,9 +57,8 @@ loop-i-preserved c =
 pub returns : goal.returns
 returns c =
     let l = c.loop-i in
-    let smaller = c.before.before in
-    let a = smaller.args in
-    let e : l.i ≡ smaller.smaller-n.result = omega arith in
+    let a = c.args in
+    let e : l.i ≡ c.smaller-n.result = omega arith in
     let k : l.i ≡ stepped_in a.records.now a.answers.now = e ∙ l.invariant.1 in
     let s = state_at a.m.now in
     record {

@@ -12,11 +12,7 @@ record_end i n k h e = omega arith
 
 pub returns : goal.returns
 returns c =
-    let store = c.before.before in
-    let stepped = store.before.before.before in
-    let ends = stepped.before.before.before.before in
-    let start = ends.before.before.before in
-    let a = start.args in
+    let a = c.args in
     let l = a.records.now in
-    let r = ends.smaller.result in
-    turned a.m.now a.i (4 * a.i + r) l (record_end a.i (length l) r start.requires.i_in_bounds ends.smaller.ensures) stepped.stepped-reply.ensures store.store_at.ensures
+    let r = c.smaller.result in
+    turned a.m.now a.i (4 * a.i + r) l (record_end a.i (length l) r c.requires.i_in_bounds c.smaller.ensures) c.stepped-reply.ensures c.store_at.ensures

@@ -17,34 +17,28 @@ use Rattle.step.proofs.run.run.Goals as goal
 
 pub store-requires : goal.store-requires
 store-requires c =
-    let tidied = c.before in
-    let start = tidied.before.before.before in
-    tidy_of (view start.args.c) tidied.tidied-chip.result tidied.tidied-chip.ensures.range tidied.tidied-chip.ensures.packed
+    tidy_of (view c.args.c) c.tidied-chip.result c.tidied-chip.ensures.range c.tidied-chip.ensures.packed
 
 pub answered-n-requires : goal.answered-n-requires
 answered-n-requires c = c.store.ensures.sound
 
 pub load-last-requires : goal.load-last-requires
 load-last-requires c =
-    let run = c.before.before.before in
-    let g = run.store.ensures.sound in
-    let a = run.args in
-    image_reached _ g.range g.bytes a.records.now a.answers.now (stepped_in a.records.now a.answers.now) run.answered-n.ensures.image run.answered-n.ensures.answers
+    let g = c.store.ensures.sound in
+    let a = c.args in
+    image_reached _ g.range g.bytes a.records.now a.answers.now (stepped_in a.records.now a.answers.now) c.answered-n.ensures.image c.answered-n.ensures.answers
 
 pub returns : goal.returns
 returns c =
-    let run = c.before.before.before in
-    let store = run.before.before.before in
-    let tidied = store.before.before in
-    let a = run.args in
+    let a = c.args in
     let bytes = a.records.now in
     let before = a.answers.now in
     let n = stepped_in bytes before in
-    let g = store.store.ensures.sound in
-    let tidy = tidied.tidied-chip.ensures in
-    let w : view tidied.tidied-chip.result ≡ view a.c = view_of (view a.c) tidied.tidied-chip.result tidy.range tidy.packed in
-    let v = ap state_at (store.store.ensures.packed ∙ ap image_of w) ∙ read_back (view a.c) tidy.range in
-    let r = run.answered-n.ensures in
+    let g = c.store.ensures.sound in
+    let tidy = c.tidied-chip.ensures in
+    let w : view c.tidied-chip.result ≡ view a.c = view_of (view a.c) c.tidied-chip.result tidy.range tidy.packed in
+    let v = ap state_at (c.store.ensures.packed ∙ ap image_of w) ∙ read_back (view a.c) tidy.range in
+    let r = c.answered-n.ensures in
     record {
       count = r.count;
       chip =

@@ -29,10 +29,9 @@ loop-i-preserved c =
 
 pub returns : goal.returns
 returns c =
-    let b = c.before.before in
-    let a = b.args in
+    let a = c.args in
     ended c.loop-i.invariant.1 c.loop-i-test.false
-    ∙ oldest_pasted a.m.now b.requires.image a.n b.requires.n_in_bounds a.out.now a.at
+    ∙ oldest_pasted a.m.now c.requires.image a.n c.requires.n_in_bounds a.out.now a.at
 
 pub overflow_add-out : goal.overflow_add-out
 overflow_add-out c = omega (arith, c.requires.n_in_bounds, c.requires.image.range.transfer.host)

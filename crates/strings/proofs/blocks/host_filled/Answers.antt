@@ -13,27 +13,23 @@ use Rattle.strings.proofs.blocks.host_filled.Goals.{After-wide-held}
 -- the count that is read
 counted : (c : After-wide-held) → c.wide-held.result ≡ length (state_at c.args.m.now).transfer.host
 counted c =
-    let a = c.before.before.before.before in
-    c.wide-held.ensures ∙ host_held a.args.m.now a.requires.image
+    c.wide-held.ensures ∙ host_held c.args.m.now c.requires.image
 
 pub overflow_add-held : goal.overflow_add-held
-overflow_add-held c = omega (arith, counted c.before, c.requires.n_len_bound)
+overflow_add-held c = omega (arith, counted (goal.at.overflow_add-held c).After-wide-held, c.requires.n_len_bound)
 
 pub laid_at-requires : goal.laid_at-requires
 laid_at-requires c =
-    let a = c.before.before.before.before.before in
-    record { m_len = long a.args.m.now a.requires.image; n_bound = omega (arith, counted c.before, a.requires.n_len_bound); n_in_bounds = a.requires.n_in_bounds }
+    record { m_len = long c.args.m.now c.requires.image; n_bound = omega (arith, counted (goal.at.laid_at-requires c).After-wide-held, c.requires.n_len_bound); n_in_bounds = c.requires.n_in_bounds }
 
 pub overflow_add-m : goal.overflow_add-m
-overflow_add-m c = omega (arith, counted c.before.before, c.requires.n_len_bound)
+overflow_add-m c = omega (arith, counted (goal.at.overflow_add-m c).After-wide-held, c.requires.n_len_bound)
 
 pub overflow_cast-m : goal.overflow_cast-m
-overflow_cast-m c = omega (arith, counted c.before.before, c.requires.n_len_bound)
+overflow_cast-m c = omega (arith, counted (goal.at.overflow_cast-m c).After-wide-held, c.requires.n_len_bound)
 
 pub returns : goal.returns
 returns c =
-    let w = c.before.before in
-    let a = w.before.before.before.before in
-    let m = a.args.m.now in
-    host_behind (state_at m) a.requires.image.packed (placed_at m a.requires.image) w.wide-held.result a.args.n (counted w)
-    (drop a.args.from a.args.bytes.now) a.requires.n_len_bound (simp length-drop (omega (arith, a.requires.n_in_bounds))) c.laid_at.ensures
+    let m = c.args.m.now in
+    host_behind (state_at m) c.requires.image.packed (placed_at m c.requires.image) c.wide-held.result c.args.n (counted (goal.at.returns c).After-wide-held)
+    (drop c.args.from c.args.bytes.now) c.requires.n_len_bound (simp length-drop (omega (arith, c.requires.n_in_bounds))) c.laid_at.ensures

@@ -17,7 +17,7 @@ loop-i-preserved c =
     (simp length-set l.invariant.0, again l.invariant.1 refl refl c.loop-i-test.true)
 
 pub loop-i-init : goal.loop-i-init
-loop-i-init c = (refl, begun _ _ _ _ (omega arith) (omega (arith, eight c.before)))
+loop-i-init c = (refl, begun _ _ _ _ (omega arith) (omega (arith, eight (goal.at.loop-i-init c).Start)))
 
 pub bounds-bytes-i : goal.bounds-bytes-i
 bounds-bytes-i c = omega arith

@@ -17,35 +17,24 @@ fits c = sym c.is_readable.ensures ∙ c.if-not-is_readable.false
 
 pub returns-then-not-is_readable : goal.returns-then-not-is_readable
 returns-then-not-is_readable c =
-    let test = c.before in
-    let tidied = test.before in
-    let a = tidied.args in
-    other_size tidied.tidied-chip.ensures a.words a.out.now
-    (sym test.is_readable.ensures ∙ c.if-not-is_readable.true)
+    let a = c.args in
+    other_size c.tidied-chip.ensures a.words a.out.now
+    (sym c.is_readable.ensures ∙ c.if-not-is_readable.true)
 
 pub store-requires : goal.store-requires
 store-requires c = entered_tidy c.tidied-chip.ensures
 
 pub fetched_over-r-requires : goal.fetched_over-r-requires
 fetched_over-r-requires c =
-    let store = c.before.before in
-    let test = store.before.before in
-    let a = test.args in
-    record { image = store.store.ensures.sound; out_len = readable_length (length a.out.now) a.words (fits test) }
+    let a = c.args in
+    record { image = c.store.ensures.sound; out_len = readable_length (length a.out.now) a.words (fits (goal.at.fetched_over-r-requires c).Else-not-is_readable) }
 
 pub load-last-requires : goal.load-last-requires
 load-last-requires c =
-    let fetched = c.before.before.before in
-    let store = fetched.before.before.before in
-    let tidied = store.before.before.before.before in
-    let a = tidied.args in
-    image_read tidied.tidied-chip.ensures a.words a.out.now store.store.ensures fetched.fetched_over-r.ensures
+    let a = c.args in
+    image_read c.tidied-chip.ensures a.words a.out.now c.store.ensures c.fetched_over-r.ensures
 
 pub returns : goal.returns
 returns c =
-    let fetched = c.before.before.before in
-    let store = fetched.before.before.before in
-    let test = store.before.before in
-    let tidied = test.before.before in
-    let a = tidied.args in
-    all_read tidied.tidied-chip.ensures a.words a.out.now store.store.ensures fetched.fetched_over-r.ensures (fits test) c.load-last.ensures
+    let a = c.args in
+    all_read c.tidied-chip.ensures a.words a.out.now c.store.ensures c.fetched_over-r.ensures (fits (goal.at.returns c).Else-not-is_readable) c.load-last.ensures

@@ -12,8 +12,7 @@ use Rattle.strings.proofs.reading.block_fetched.Goals as goal
 
 pub host_popped-requires : goal.host_popped-requires
 host_popped-requires c =
-    let start = c.before.before.before.before.before.before in
-    record { image = start.requires.image; k_bound = omega (arith, start.requires.n_in_bounds, host_held start.args.m.now start.requires.image) }
+    record { image = c.requires.image; k_bound = omega (arith, c.requires.n_in_bounds, host_held c.args.m.now c.requires.image) }
 
 -- the bytes that stay
 module _ {m : List ℕ} (i : IsImage m) (n : ℕ) where
@@ -28,20 +27,15 @@ module _ {m : List ℕ} (i : IsImage m) (n : ℕ) where
 
 pub settled_in-sent-requires : goal.settled_in-sent-requires
 settled_in-sent-requires c =
-    let popped = c.before in
-    let start = popped.before.before.before.before.before.before.before in
-    let i = start.requires.image in
-    let n = start.args.n in
-    image_held i (drop n (host i n)) (fits i n) (bytes i n) popped.host_popped.ensures
+    let i = c.requires.image in
+    let n = c.args.n in
+    image_held i (drop n (host i n)) (fits i n) (bytes i n) c.host_popped.ensures
 
 pub returns : goal.returns
 returns c =
-    let popped = c.before.before in
-    let copied = popped.before.before.before.before in
-    let start = copied.before.before.before in
-    let i = start.requires.image in
-    let n = start.args.n in
+    let i = c.requires.image in
+    let n = c.args.n in
     record {
-      image = (block_held i (drop n (host i n)) (fits i n) (bytes i n) popped.host_popped.ensures c.settled_in-sent.ensures).image;
-      buffer = copied.host_copied.ensures;
+      image = (block_held i (drop n (host i n)) (fits i n) (bytes i n) c.host_popped.ensures c.settled_in-sent.ensures).image;
+      buffer = c.host_copied.ensures;
     }

@@ -11,103 +11,78 @@ use Rattle.words.specs.Words.{Strung, strung, word_reads}
 use Rattle.strings.proofs.Going.{Turn, no_words, turned}
 use Rattle.strings.proofs.Fetching.{ReadRound, read_stops, read_begun, enough, there, next_read, all_read, no_bytes_lem}
 use Rattle.strings.proofs.reading.fetched_over.Goals as goal
-use Rattle.strings.proofs.reading.fetched_over.Goals.{After-first_fetched-first, After-smaller-k, After-wide-held, In-loop-done, Start}
+use Rattle.strings.proofs.reading.fetched_over.Goals.{After-loop-done, After-smaller-k, In-loop-done}
 
--- where the loop is entered, what was called before it, and the start
-abbrev Entry : Type 0
-Entry = After-wide-held
+-- what a turn finds
+abbrev Round : List ℕ → ℕ → List ℕ → List ℕ → List ℕ → ℕ → ℕ → Type 0
+Round m₀ words out₀ m out done held = ReadRound (strung (state_at m₀) (word_reads words)) out₀ words m out done held
 
-abbrev first_of : (c : Entry) → After-first_fetched-first
-first_of c = c.before.before.before.before.before.before.before
+found : (c : In-loop-done) → Round c.args.m.now c.args.words c.args.out.now c.loop-done.m c.loop-done.out c.loop-done.done c.loop-done.held
+found c =
+    c.loop-done.invariant _ _
+    (read_begun c.requires.image c.args.words (omega (arith, c.if-words-eq0.false)) c.first_fetched-first.ensures c.if-first-eq0.false c.requires.out_len c.wide-held.ensures)
 
-abbrev start_of : (c : Entry) → Start
-start_of c = (first_of c).before.before.before.before.before
+-- and after the last turn
+at_end : (c : After-loop-done) → Round c.args.m.now c.args.words c.args.out.now c.loop-done.m c.loop-done.out c.loop-done.done c.loop-done.held
+at_end c =
+    c.loop-done.invariant _ _
+    (read_begun c.requires.image c.args.words (omega (arith, c.if-words-eq0.false)) c.first_fetched-first.ensures c.if-first-eq0.false c.requires.out_len c.wide-held.ensures)
 
-abbrev Now : (c : Entry) → List ℕ → List ℕ → ℕ → ℕ → Type 0
-Now c m out done held =
-    let a = (start_of c).args in
-    ReadRound (strung (state_at a.m.now) (word_reads a.words)) a.out.now a.words m out done held
+-- the words that it takes
+takes : (c : After-smaller-k) → Turn c.args.words c.loop-done.done (c.loop-done.held / 2) c.smaller-k.result
+takes c = turned 1 c.loop-done.held c.loop-done-test.true (λ h. omega arith) c.smaller-k.ensures
 
--- after the first word
-entered : (c : Entry) → Now c (first_of c).first_fetched-first.new.m (first_of c).first_fetched-first.new.out 1 c.wide-held.result
-entered c =
-    let first = first_of c in
-    let start = start_of c in
-    read_begun start.requires.image start.args.words (omega (arith, first.if-words-eq0.false)) first.first_fetched-first.ensures c.if-first-eq0.false start.requires.out_len c.wide-held.ensures
+-- twice the words fit the machine's word, as the buffer does
+twice_fit : (c : In-loop-done) → 2 * c.args.words < 2 ^ 63
+twice_fit c = omega (arith, c.requires.out_len)
 
 pub returns-then-words-eq0 : goal.returns-then-words-eq0
 returns-then-words-eq0 c =
-    let start = c.before.before in
-    no_words true start.requires.image start.args.out.now (ap (λ (k : ℕ). word_reads k) c.if-words-eq0.true)
+    no_words true c.requires.image c.args.out.now (ap (λ (k : ℕ). word_reads k) c.if-words-eq0.true)
 
 pub first_fetched-first-requires : goal.first_fetched-first-requires
 first_fetched-first-requires c =
-    let start = c.before.before.before.before in
-    record { image = start.requires.image; in_bounds = omega (arith, start.requires.out_len, c.if-words-eq0.false) }
+    record { image = c.requires.image; in_bounds = omega (arith, c.requires.out_len, c.if-words-eq0.false) }
 
 pub returns-then-first-eq0 : goal.returns-then-first-eq0
 returns-then-first-eq0 c =
-    let first = c.before.before.before.before in
-    let start = first.before.before.before.before.before in
-    read_stops start.requires.image start.args.words (omega (arith, first.if-words-eq0.false)) first.first_fetched-first.ensures c.if-first-eq0.true
+    read_stops c.requires.image c.args.words (omega (arith, c.if-words-eq0.false)) c.first_fetched-first.ensures c.if-first-eq0.true
 
 pub loop-done-init : goal.loop-done-init
 loop-done-init c x before k = k
 
--- what a turn finds, and the words that it takes
-abbrev In : Type 0
-In = In-loop-done
-
-found : (c : In) → Now c.before.before c.loop-done.m c.loop-done.out c.loop-done.done c.loop-done.held
-found c = c.loop-done.invariant _ _ (entered c.before.before)
-
-takes : (c : After-smaller-k) → Turn (start_of c.before.before.before).args.words c.loop-done.done (c.loop-done.held / 2) c.smaller-k.result
-takes c = turned 1 c.loop-done.held c.loop-done-test.true (λ h. omega arith) c.smaller-k.ensures
-
--- twice the words fit the machine's word, as the buffer does
-twice_fit : (c : In) → 2 * (start_of c.before.before).args.words < 2 ^ 63
-twice_fit c = omega (arith, (start_of c.before.before).requires.out_len)
-
 pub block_fetched-requires : goal.block_fetched-requires
 block_fetched-requires c =
-    let smaller = c.before.before in
-    let f = found smaller.before in
-    let t = takes smaller in
+    let f = found (goal.at.block_fetched-requires c).In-loop-done in
+    let t = takes (goal.at.block_fetched-requires c).After-smaller-k in
     record { image = f.round.image; n_in_bounds = enough f t; n_in_bounds_2 = there f t }
 
 pub loop-done-preserved : goal.loop-done-preserved
 loop-done-preserved c x before k =
-    let block = c.before.before.before.before.before in
-    let smaller = block.before.before.before in
-    next_read (smaller.loop-done.invariant x before k) (takes smaller) block.block_fetched.ensures c.wide-held-in-loop-done.ensures
-
--- after the last turn
-at_end : (c : goal.Joined-done-words)
-    → Now c.before.before.before c.loop-done.m c.loop-done.out c.loop-done.done c.loop-done.held
-at_end c = c.loop-done.invariant _ _ (entered c.before.before.before)
+    next_read (c.loop-done.invariant x before k) (takes (goal.at.loop-done-preserved c).After-smaller-k) c.block_fetched.ensures c.wide-held-in-loop-done.ensures
 
 pub returns : goal.returns
 returns c =
-    ⊎_elim (λ w. all_read (at_end c) w.0.taken w.1) (λ w. no_bytes_lem (at_end c) c.loop-done-test.false w.0.left w.1)
+    ⊎_elim (λ w. all_read (at_end (goal.at.returns c).After-loop-done) w.0.taken w.1) (λ w. no_bytes_lem (at_end (goal.at.returns c).After-loop-done) c.loop-done-test.false w.0.left w.1)
     c.if-done-words.branch
 
 pub overflow_sub-words : goal.overflow_sub-words
-overflow_sub-words c = (found c).few
+overflow_sub-words c = (found (goal.at.overflow_sub-words c).In-loop-done).few
 
 pub overflow_mul-k : goal.overflow_mul-k
-overflow_mul-k c = omega (arith, (takes c.before).few, twice_fit c.before.before)
+overflow_mul-k c = omega (arith, (takes (goal.at.overflow_mul-k c).After-smaller-k).few, twice_fit (goal.at.overflow_mul-k c).In-loop-done)
 
 pub overflow_mul-done : goal.overflow_mul-done
-overflow_mul-done c = omega (arith, (takes c.before.before).few, twice_fit c.before.before.before)
+overflow_mul-done c = omega (arith, (takes (goal.at.overflow_mul-done c).After-smaller-k).few, twice_fit (goal.at.overflow_mul-done c).In-loop-done)
 
 pub overflow_add-done : goal.overflow_add-done
-overflow_add-done c = omega (arith, (takes c.before.before.before.before.before).few, twice_fit c.before.before.before.before.before.before)
+overflow_add-done c = omega (arith, (takes (goal.at.overflow_add-done c).After-smaller-k).few, twice_fit (goal.at.overflow_add-done c).In-loop-done)
 
 pub loop-done-smaller : goal.loop-done-smaller
-loop-done-smaller c = omega (arith, (takes c.before.before.before.before.before.before.before.before).some, (takes c.before.before.before.before.before.before.before.before).few)
+loop-done-smaller c = omega (arith, (takes (goal.at.loop-done-smaller c).After-smaller-k).some, (takes (goal.at.loop-done-smaller c).After-smaller-k).few)
 
 pub overflow_mul-result : goal.overflow_mul-result
-overflow_mul-result c = omega (arith, (at_end c).few, (start_of c.before.before.before).requires.out_len)
+overflow_mul-result c = omega (arith, (at_end (goal.at.overflow_mul-result c).After-loop-done).few, c.requires.out_len)
 
 pub shape_of-out : goal.shape_of-out
-shape_of-out c = (at_end c).round.goes.long
+shape_of-out c = (at_end (goal.at.shape_of-out c).After-loop-done).round.goes.long

@@ -6,14 +6,8 @@ use Rattle.strings.proofs.reading.first_fetched.Goals as goal
 
 pub returns-then-code_number-ne0 : goal.returns-then-code_number-ne0
 returns-then-code_number-ne0 c =
-    let number = c.before in
-    let outcome = number.before in
-    let start = outcome.before.before.before.before in
-    word_refused (word_read_lem _ start.requires.image.range) outcome.outcome_of-o.ensures (λ e. c.if-code_number-ne0.true (number.code_number.ensures ∙ e)) start.args.out.now
+    word_refused (word_read_lem _ c.requires.image.range) c.outcome_of-o.ensures (λ e. c.if-code_number-ne0.true (c.code_number.ensures ∙ e)) c.args.out.now
 
 pub returns : goal.returns
 returns c =
-    let number = c.before.before.before in
-    let outcome = number.before in
-    let start = outcome.before.before.before.before in
-    first_read start.requires.image.range outcome.outcome_of-o.ensures (sym number.code_number.ensures ∙ c.if-code_number-ne0.false) start.requires.in_bounds refl
+    first_read c.requires.image.range c.outcome_of-o.ensures (sym c.code_number.ensures ∙ c.if-code_number-ne0.false) c.requires.in_bounds refl

@@ -8,17 +8,14 @@ use Rattle.strings.proofs.sending.acknowledged_by.Goals as goal
 
 pub overflow_sub-m-2 : goal.overflow_sub-m-2
 overflow_sub-m-2 c =
-    let a = c.before.before.before.before in
-    omega (arith, offset_held a.args.m.now a.requires.image, a.requires.n_bound)
+    omega (arith, offset_held c.args.m.now c.requires.image, c.requires.n_bound)
 
 pub overflow_add-m-2 : goal.overflow_add-m-2
 overflow_add-m-2 c =
-    let a = c.before.before.before.before in
-    omega (arith, low_held a.args.m.now a.requires.image a.args.n, a.requires.n_bound_2)
+    omega (arith, low_held c.args.m.now c.requires.image c.args.n, c.requires.n_bound_2)
 
 pub returns : goal.returns
 returns c =
-    let a = c.before.before.before.before in
-    let m = a.args.m.now in
-    let n = a.args.n in
-    acked m a.requires.image n a.requires.n_nonzero a.requires.n_in_bounds a.requires.n_bound_2 refl (ap (λ (o : ℕ). o - n) (offset_held m a.requires.image)) refl
+    let m = c.args.m.now in
+    let n = c.args.n in
+    acked m c.requires.image n c.requires.n_nonzero c.requires.n_in_bounds c.requires.n_bound_2 refl (ap (λ (o : ℕ). o - n) (offset_held m c.requires.image)) refl

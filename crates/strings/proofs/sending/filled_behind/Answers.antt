@@ -16,39 +16,31 @@ use Rattle.strings.proofs.sending.filled_behind.Goals.{After-smaller-k, After-wi
 -- the count that is read, and the bytes that fill the SCSI FIFO
 counted : (c : After-wide) → c.wide.result ≡ length (state_at c.args.m.now).transfer.host
 counted c =
-    let a = c.before.before.before in
-    c.wide.ensures ∙ host_held a.args.m.now a.requires.image
+    c.wide.ensures ∙ host_held c.args.m.now c.requires.image
 
 fill : (c : After-smaller-k) → c.smaller-k.result ≡ min (length (state_at c.args.m.now).transfer.host - c.args.n) 8
-fill c = c.smaller-k.ensures ∙ ap (λ (h : ℕ). min (h - c.args.n) 8) (counted c.before)
+fill c = c.smaller-k.ensures ∙ ap (λ (h : ℕ). min (h - c.args.n) 8) (c.wide.ensures ∙ host_held c.args.m.now c.requires.image)
 
 fill_held : (c : After-smaller-k) → c.args.n + c.smaller-k.result ≤ length (state_at c.args.m.now).transfer.host
 fill_held c = omega (arith, fill c, c.requires.n_in_bounds)
 
 pub overflow_sub-wide : goal.overflow_sub-wide
-overflow_sub-wide c = omega (arith, counted c, c.requires.n_in_bounds)
+overflow_sub-wide c = omega (arith, counted (goal.at.overflow_sub-wide c).After-wide, c.requires.n_in_bounds)
 
 pub copied-requires : goal.copied-requires
 copied-requires c =
-    let a = c.before.before.before.before.before in
-    let f = a.requires.image.range.transfer.host in
-    record { m_len = long a.args.m.now a.requires.image; n_bound = omega (arith, f, fill_held c.before); n_bound_2 = omega (arith, fill c.before); n_bound_3 = λ l. absurd (omega arith) }
+    let f = c.requires.image.range.transfer.host in
+    record { m_len = long c.args.m.now c.requires.image; n_bound = omega (arith, f, fill_held (goal.at.copied-requires c).After-smaller-k); n_bound_2 = omega (arith, fill (goal.at.copied-requires c).After-smaller-k); n_bound_3 = λ l. absurd (omega arith) }
 
 pub host_popped-requires : goal.host_popped-requires
 host_popped-requires c =
-    let k = c.before.before in
-    let b = k.before.before in
-    let a = b.before.before.before.before in
-    let m = a.args.m.now in
-    let few : b.smaller-k.result ≤ 8 = omega (arith, fill b) in record { image = behind_image m a.requires.image a.args.n a.requires.m_value b.smaller-k.result (fill_held b) few k.copied.ensures; k_bound = behind_held m a.requires.image a.args.n a.requires.m_value b.smaller-k.result (fill_held b) few k.copied.ensures }
+    let m = c.args.m.now in
+    let few : c.smaller-k.result ≤ 8 = omega (arith, fill (goal.at.host_popped-requires c).After-smaller-k) in record { image = behind_image m c.requires.image c.args.n c.requires.m_value c.smaller-k.result (fill_held (goal.at.host_popped-requires c).After-smaller-k) few c.copied.ensures; k_bound = behind_held m c.requires.image c.args.n c.requires.m_value c.smaller-k.result (fill_held (goal.at.host_popped-requires c).After-smaller-k) few c.copied.ensures }
 
 pub returns : goal.returns
 returns c =
-    let k = c.before.before.before in
-    let b = k.before.before in
-    let a = b.before.before.before.before in
-    let m = a.args.m.now in
-    let n = a.args.n in
-    let few : b.smaller-k.result ≤ 8 = omega (arith, fill b) in
-    filled m a.requires.image n a.requires.m_value b.smaller-k.result (fill_held b) few k.copied.ensures c.host_popped.ensures
-    ∙ ap (λ (j : ℕ). image_of (with_transfer (carried true j (transfer_with_host (drop n (state_at m).transfer.host) (state_at m).transfer)) (state_at m))) (fill b)
+    let m = c.args.m.now in
+    let n = c.args.n in
+    let few : c.smaller-k.result ≤ 8 = omega (arith, fill (goal.at.returns c).After-smaller-k) in
+    filled m c.requires.image n c.requires.m_value c.smaller-k.result (fill_held (goal.at.returns c).After-smaller-k) few c.copied.ensures c.host_popped.ensures
+    ∙ ap (λ (j : ℕ). image_of (with_transfer (carried true j (transfer_with_host (drop n (state_at m).transfer.host) (state_at m).transfer)) (state_at m))) (fill (goal.at.returns c).After-smaller-k)

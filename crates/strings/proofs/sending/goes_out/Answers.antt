@@ -21,24 +21,17 @@ returns-then-wide-n-gt255 c = record { n_nonzero = λ e. absurd (never e); m_val
 
 pub overflow_add-wide : goal.overflow_add-wide
 overflow_add-wide c =
-    let a = c.before.before.before.before.before.before in
-    omega (arith, c.wide.ensures, low_held a.args.m.now a.requires.image a.args.n, a.requires.n_bound)
+    omega (arith, c.wide.ensures, low_held c.args.m.now c.requires.image c.args.n, c.requires.n_bound)
 
 pub returns : goal.returns
 unfolding looked_at
 returns c =
-    let known = c.before.before in
-    let carries = known.before in
-    let wide = carries.before in
-    let held = wide.before.before in
-    let some = held.before.before.before in
-    let a = some.before in
-    let m = a.args.m.now in
-    let r = known.conditions_of-c.result in
-    let e = known.conditions_of-c.ensures in record { n_nonzero = λ h. (
-        omega (arith, some.if-n-eq0.false),
-        none_held (state_at m).transfer.scsi (omega (arith, held.if-m-gt0.false, scsi_held m a.requires.image)),
-        omega (arith, carries.if-wide-n-gt255.false, wide.wide.ensures, low_held m a.requires.image a.args.n),
+    let m = c.args.m.now in
+    let r = c.conditions_of-c.result in
+    let e = c.conditions_of-c.ensures in record { n_nonzero = λ h. (
+        omega (arith, c.if-n-eq0.false),
+        none_held (state_at m).transfer.scsi (omega (arith, c.if-m-gt0.false, scsi_held m c.requires.image)),
+        omega (arith, c.if-wide-n-gt255.false, c.wide.ensures, low_held m c.requires.image c.args.n),
       ); m_value = λ h.
           let both = left_true (r.enabled && r.outbound) r.synchronous h in (
             sym (ap (λ (d : Conditions). d.enabled) e) ∙ left_true r.enabled r.outbound both,

@@ -24,8 +24,7 @@ loop-i-preserved c =
 
 pub returns : goal.returns
 returns c =
-    let b = c.before.before in
-    oldest_sent b.args.m.now b.requires.image b.args.n b.requires.n_in_bounds c.loop-i.bytes (ended c.loop-i.invariant c.loop-i-test.false)
+    oldest_sent c.args.m.now c.requires.image c.args.n c.requires.n_in_bounds c.loop-i.bytes (ended c.loop-i.invariant c.loop-i-test.false)
 
 pub overflow_add-bytes : goal.overflow_add-bytes
 overflow_add-bytes c = omega (arith, c.requires.n_bound)

@@ -17,38 +17,27 @@ fits c = sym c.is_writable.ensures ∙ c.if-not-is_writable.false
 
 pub returns-then-not-is_writable : goal.returns-then-not-is_writable
 returns-then-not-is_writable c =
-    let test = c.before in
-    let tidied = test.before in
-    let a = tidied.args in
-    other_sizes tidied.tidied-chip.ensures a.bytes.now a.words a.out.now
-    (sym test.is_writable.ensures ∙ c.if-not-is_writable.true)
+    let a = c.args in
+    other_sizes c.tidied-chip.ensures a.bytes.now a.words a.out.now
+    (sym c.is_writable.ensures ∙ c.if-not-is_writable.true)
 
 pub store-requires : goal.store-requires
 store-requires c = entered_tidy c.tidied-chip.ensures
 
 pub written_over-r-requires : goal.written_over-r-requires
 written_over-r-requires c =
-    let store = c.before.before in
-    let test = store.before.before in
-    let a = test.args in
+    let a = c.args in
     let bytes = length a.bytes.now in
     let room = length a.out.now in
-    record { image = store.store.ensures.sound; bytes_len = writable_length bytes a.words room (fits test); words_in_bounds = writable_room bytes a.words room (fits test) }
+    record { image = c.store.ensures.sound; bytes_len = writable_length bytes a.words room (fits (goal.at.written_over-r-requires c).Else-not-is_writable); words_in_bounds = writable_room bytes a.words room (fits (goal.at.written_over-r-requires c).Else-not-is_writable) }
 
 pub load-last-requires : goal.load-last-requires
 load-last-requires c =
-    let written = c.before.before.before in
-    let store = written.before.before.before in
-    let tidied = store.before.before.before.before in
-    let a = tidied.args in
-    image_written_lem tidied.tidied-chip.ensures a.bytes.now a.words a.out.now store.store.ensures written.written_over-r.ensures
+    let a = c.args in
+    image_written_lem c.tidied-chip.ensures a.bytes.now a.words a.out.now c.store.ensures c.written_over-r.ensures
 
 pub returns : goal.returns
 returns c =
-    let written = c.before.before.before in
-    let store = written.before.before.before in
-    let test = store.before.before in
-    let tidied = test.before.before in
-    let a = tidied.args in
-    all_written tidied.tidied-chip.ensures a.bytes.now a.words a.out.now store.store.ensures written.written_over-r.ensures (fits test)
+    let a = c.args in
+    all_written c.tidied-chip.ensures a.bytes.now a.words a.out.now c.store.ensures c.written_over-r.ensures (fits (goal.at.returns c).Else-not-is_writable)
     c.load-last.ensures

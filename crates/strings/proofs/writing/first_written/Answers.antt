@@ -6,37 +6,27 @@ use Rattle.words.proofs.Keeps.{by_elements}
 use Rattle.strings.proofs.First.{word_refused}
 use Rattle.strings.proofs.WordsWritten.{word_written_lem, few_sent, first_stored}
 use Rattle.strings.proofs.writing.first_written.Goals as goal
-use Rattle.strings.proofs.writing.first_written.Goals.{After-outcome_of-o, Start}
+use Rattle.strings.proofs.writing.first_written.Goals.{After-outcome_of-o}
 
--- where the step has been done, and the start
-abbrev start_of : (c : After-outcome_of-o) → Start
-start_of c = c.before.before.before.before.before.before.before
-
-known : (c : After-outcome_of-o) → Bytes (start_of c).args.bytes.now
-known c = by_elements (start_of c).args.bytes.now (λ k. omega (arith, c.shared_slice_known-3-1.given k))
+-- where the step has been done
+known : (c : After-outcome_of-o) → Bytes c.args.bytes.now
+known c = by_elements c.args.bytes.now (λ k. omega (arith, c.shared_slice_known-3-1.given k))
 
 pub returns-then-code_number-ne0 : goal.returns-then-code_number-ne0
 returns-then-code_number-ne0 c =
-    let stepped = c.before.before in
-    let start = start_of stepped in
     record {
-      known = known stepped;
-      passed = word_refused (word_written_lem _ start.requires.image.range start.args.bytes.now (known stepped)) stepped.outcome_of-o.ensures (λ e. c.if-code_number-ne0.true (c.code_number.ensures ∙ e)) start.args.out.now;
+      known = known (goal.at.returns-then-code_number-ne0 c).After-outcome_of-o;
+      passed = word_refused (word_written_lem _ c.requires.image.range c.args.bytes.now (known (goal.at.returns-then-code_number-ne0 c).After-outcome_of-o)) c.outcome_of-o.ensures (λ e. c.if-code_number-ne0.true (c.code_number.ensures ∙ e)) c.args.out.now;
     }
 
 pub sent_stored-requires : goal.sent_stored-requires
 sent_stored-requires c =
-    let stepped = c.before.before.before.before in
-    let start = start_of stepped in
-    let few = few_sent start.requires.image.range start.args.bytes.now stepped.outcome_of-o.ensures in
-    record { count_bound = few; count_in_bounds = omega (arith, few, start.requires.in_bounds_2) }
+    let few = few_sent c.requires.image.range c.args.bytes.now c.outcome_of-o.ensures in
+    record { count_bound = few; count_in_bounds = omega (arith, few, c.requires.in_bounds_2) }
 
 pub returns : goal.returns
 returns c =
-    let numbered = c.before.before.before.before.before.before in
-    let stepped = numbered.before in
-    let start = start_of stepped in
     record {
-      known = known stepped;
-      passed = first_stored start.requires.image.range start.args.bytes.now stepped.outcome_of-o.ensures (known stepped) (sym numbered.code_number.ensures ∙ c.if-code_number-ne0.false) c.sent_stored.ensures;
+      known = known (goal.at.returns c).After-outcome_of-o;
+      passed = first_stored c.requires.image.range c.args.bytes.now c.outcome_of-o.ensures (known (goal.at.returns c).After-outcome_of-o) (sym c.code_number.ensures ∙ c.if-code_number-ne0.false) c.sent_stored.ensures;
     }

@@ -11,7 +11,7 @@ counted : (c : After-wide) → c.wide.result ≡ length (state_at c.args.m.now).
 counted c = c.wide.ensures ∙ host_held c.args.m.now c.requires
 
 pub overflow_sub-result : goal.overflow_sub-result
-overflow_sub-result c = omega (arith, counted c, c.requires.range.transfer.host)
+overflow_sub-result c = omega (arith, counted (goal.at.overflow_sub-result c).After-wide, c.requires.range.transfer.host)
 
 pub returns : goal.returns
-returns c = rw (counted c)
+returns c = rw (counted (goal.at.returns c).After-wide)

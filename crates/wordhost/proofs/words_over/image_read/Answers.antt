@@ -14,39 +14,30 @@ accepts c = c.if-not-is_taken.false
 
 pub returns-then-not-is_taken : goal.returns-then-not-is_taken
 returns-then-not-is_taken c =
-    let taken = c.before.before in
-    let a = taken.args in
+    let a = c.args in
     read_refused a.image.now a.words a.out.now
-    (sym taken.is_taken.ensures.tested ∙ c.if-not-is_taken.true) c.not_done.ensures
+    (sym c.is_taken.ensures.tested ∙ c.if-not-is_taken.true) c.not_done.ensures
 
 pub words_read-r-requires : goal.words_read-r-requires
 words_read-r-requires c =
-    let test = c.before.before in
-    test.is_taken.ensures.sound (accepts test)
+    c.is_taken.ensures.sound (accepts (goal.at.words_read-r-requires c).Else-not-is_taken)
 
 pub slice_bounds-copy-end : goal.slice_bounds-copy-end
 slice_bounds-copy-end c =
-    let called = c.before.before.before in
-    let test = called.before.before.before in
-    let a = test.args in
-    sym (acceptable_length _ (read_image (test.is_taken.ensures.sound (accepts test)) a.words a.out.now called.words_read-r.ensures))
+    let a = c.args in
+    sym (acceptable_length _ (read_image (c.is_taken.ensures.sound (accepts (goal.at.slice_bounds-copy-end c).Else-not-is_taken)) a.words a.out.now c.words_read-r.ensures))
 
 pub copy-requires : goal.copy-requires
 copy-requires c =
-    let called = c.before.before.before.before in
-    let test = called.before.before.before in
-    let a = test.args in
-    let taken = test.is_taken.ensures in
-    let i = taken.sound (accepts test) in
-    acceptable_length _ (read_image i a.words a.out.now called.words_read-r.ensures) ∙ sym (acceptable_length _ i)
-    ∙ ap length (taken.copied (accepts test))
+    let a = c.args in
+    let taken = c.is_taken.ensures in
+    let i = taken.sound (accepts (goal.at.copy-requires c).Else-not-is_taken) in
+    acceptable_length _ (read_image i a.words a.out.now c.words_read-r.ensures) ∙ sym (acceptable_length _ i)
+    ∙ ap length (taken.copied (accepts (goal.at.copy-requires c).Else-not-is_taken))
 
 pub returns : goal.returns
 returns c =
-    let copied = c.before.before in
-    let called = copied.before.before.before.before in
-    let test = called.before.before.before in
-    let a = test.args in
-    let taken = test.is_taken.ensures in
-    read_done a.image.now a.words a.out.now (sym taken.tested ∙ accepts test) (taken.copied (accepts test))
-    called.words_read-r.ensures copied.copy.ensures
+    let a = c.args in
+    let taken = c.is_taken.ensures in
+    read_done a.image.now a.words a.out.now (sym taken.tested ∙ accepts (goal.at.returns c).Else-not-is_taken) (taken.copied (accepts (goal.at.returns c).Else-not-is_taken))
+    c.words_read-r.ensures c.copy.ensures

@@ -15,23 +15,16 @@ fits c = sym c.is_readable.ensures ∙ c.if-not-is_readable.false
 
 pub returns-then-not-is_readable : goal.returns-then-not-is_readable
 returns-then-not-is_readable c =
-    let test = c.before.before in
-    let start = test.before.before in
-    let a = start.args in
-    not_read start.requires a.words a.out.now
-    (sym test.is_readable.ensures ∙ c.if-not-is_readable.true) c.not_done.ensures
+    let a = c.args in
+    not_read c.requires a.words a.out.now
+    (sym c.is_readable.ensures ∙ c.if-not-is_readable.true) c.not_done.ensures
 
 pub fetched_over-requires : goal.fetched_over-requires
 fetched_over-requires c =
-    let test = c.before.before in
-    let start = test.before.before.before in
-    let a = start.args in
-    record { image = start.requires; out_len = readable_length (length a.out.now) a.words (fits test) }
+    let a = c.args in
+    record { image = c.requires; out_len = readable_length (length a.out.now) a.words (fits (goal.at.fetched_over-requires c).Else-not-is_readable) }
 
 pub returns : goal.returns
 returns c =
-    let fetched = c.before.before in
-    let test = fetched.before.before.before in
-    let start = test.before.before.before in
-    let a = start.args in
-    all_read start.requires a.words a.out.now (fits test) fetched.fetched_over.ensures
+    let a = c.args in
+    all_read c.requires a.words a.out.now (fits (goal.at.returns c).Else-not-is_readable) c.fetched_over.ensures

@@ -15,25 +15,18 @@ fits c = sym c.is_writable.ensures ∙ c.if-not-is_writable.false
 
 pub returns-then-not-is_writable : goal.returns-then-not-is_writable
 returns-then-not-is_writable c =
-    let test = c.before.before in
-    let start = test.before.before.before in
-    let a = start.args in
-    not_written_lem start.requires a.bytes.now a.words a.out.now
-    (sym test.is_writable.ensures ∙ c.if-not-is_writable.true) c.not_done.ensures
+    let a = c.args in
+    not_written_lem c.requires a.bytes.now a.words a.out.now
+    (sym c.is_writable.ensures ∙ c.if-not-is_writable.true) c.not_done.ensures
 
 pub written_over-requires : goal.written_over-requires
 written_over-requires c =
-    let test = c.before.before in
-    let start = test.before.before.before.before in
-    let a = start.args in
+    let a = c.args in
     let bytes = length a.bytes.now in
     let room = length a.out.now in
-    record { image = start.requires; bytes_len = writable_length bytes a.words room (fits test); words_in_bounds = writable_room bytes a.words room (fits test) }
+    record { image = c.requires; bytes_len = writable_length bytes a.words room (fits (goal.at.written_over-requires c).Else-not-is_writable); words_in_bounds = writable_room bytes a.words room (fits (goal.at.written_over-requires c).Else-not-is_writable) }
 
 pub returns : goal.returns
 returns c =
-    let written = c.before.before in
-    let test = written.before.before.before in
-    let start = test.before.before.before.before in
-    let a = start.args in
-    all_written start.requires a.bytes.now a.words a.out.now (fits test) written.written_over.ensures
+    let a = c.args in
+    all_written c.requires a.bytes.now a.words a.out.now (fits (goal.at.returns c).Else-not-is_writable) c.written_over.ensures

@@ -7,12 +7,10 @@ use Rattle.writes.proofs.selecting.control_written.Goals as goal
 
 pub returns-then-gives_up : goal.returns-then-gives_up
 returns-then-gives_up c =
-    let asked = c.before.before in
-    let a = asked.args in
-    c.gave_up.ensures ∙ ap gave_up asked.sequencer-q.ensures ∙ gave_up_is (state_at a.m.now) a.value (sym asked.gives_up.ensures ∙ c.if-gives_up.true)
+    let a = c.args in
+    c.gave_up.ensures ∙ ap gave_up c.sequencer-q.ensures ∙ gave_up_is (state_at a.m.now) a.value (sym c.gives_up.ensures ∙ c.if-gives_up.true)
 
 pub returns : goal.returns
 returns c =
-    let asked = c.before in
-    let a = asked.args in
-    asked.sequencer-q.ensures ∙ goes_on (state_at a.m.now) a.value (sym asked.gives_up.ensures ∙ c.if-gives_up.false)
+    let a = c.args in
+    c.sequencer-q.ensures ∙ goes_on (state_at a.m.now) a.value (sym c.gives_up.ensures ∙ c.if-gives_up.false)

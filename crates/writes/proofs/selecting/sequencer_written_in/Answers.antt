@@ -12,13 +12,11 @@ use Rattle.writes.proofs.selecting.sequencer_written_in.Goals as goal
 
 pub sequencer_put-requires : goal.sequencer_put-requires
 sequencer_put-requires c =
-    let a = c.before.before in
-    let x = a.args in
+    let x = c.args in
     let s = state_at x.m.now in
-    record { image = a.requires.image; ticks_lt_counter_size = subst (λ (q : Sequencer). q.ticks < counter_size) (sym c.sequencer_written-q.ensures) (ticks_fit s (Write (offset_of x.register) x.value) a.requires.image.range.sequencer) }
+    record { image = c.requires.image; ticks_lt_counter_size = subst (λ (q : Sequencer). q.ticks < counter_size) (sym c.sequencer_written-q.ensures) (ticks_fit s (Write (offset_of x.register) x.value) c.requires.image.range.sequencer) }
 
 pub returns : goal.returns
 returns c =
-    let written = c.before.before in
-    let s = state_at written.args.m.now in
-    c.sequencer_put.ensures ∙ ap (λ (q : Sequencer). image_of (with_sequencer q s)) written.sequencer_written-q.ensures
+    let s = state_at c.args.m.now in
+    c.sequencer_put.ensures ∙ ap (λ (q : Sequencer). image_of (with_sequencer q s)) c.sequencer_written-q.ensures

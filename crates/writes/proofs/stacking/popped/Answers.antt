@@ -4,6 +4,4 @@ use Rattle.writes.proofs.stacking.popped.Goals as goal
 
 pub returns : goal.returns
 returns c =
-    let asked = c.before.before.before in
-    let a = asked.before in
-    rw c.next_of.ensures (popped_image a.args.m.now a.requires asked.enstk32-enstk32.ensures)
+    rw c.next_of.ensures (popped_image c.args.m.now c.requires c.enstk32-enstk32.ensures)

@@ -6,12 +6,8 @@ use Rattle.writes.proofs.stacking.pushed.Goals as goal
 
 pub bounds-m-at : goal.bounds-m-at
 bounds-m-at c =
-    let placed = c.before in
-    omega (arith, place_below placed.enstk32-enstk32.result _ placed.place_of-at.ensures)
+    omega (arith, place_below c.enstk32-enstk32.result _ c.place_of-at.ensures)
 
 pub returns : goal.returns
 returns c =
-    let placed = c.before in
-    let asked = placed.before.before.before in
-    let a = asked.before in
-    rw (placed.place_of-at.ensures, c.next_of-next.ensures) (pushed_image a.args.value a.args.m.now a.requires asked.enstk32-enstk32.ensures)
+    rw (c.place_of-at.ensures, c.next_of-next.ensures) (pushed_image c.args.value c.args.m.now c.requires c.enstk32-enstk32.ensures)

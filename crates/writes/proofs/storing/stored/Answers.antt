@@ -8,43 +8,36 @@ use Rattle.rules.specs.declared.records.Event.TheVariants.{Write}
 use Rattle.image.specs.Image.{state_at, scsisig_byte}
 use Rattle.writes.proofs.StoringRegisters.{plain, far_from, unstored}
 use Rattle.writes.proofs.RegisterStores.{put_scsiseq, put_sxfrctl0, put_sxfrctl1, put_scsisigo, put_scsirate, put_scsiid, put_scsidat, put_clrsint1, put_simode0, put_simode1, put_dmacntrl0, put_dmacntrl1, put_brstcntrl, unchanged}
+use borrow.Enum.Refused.{opened}
 use Rattle.writes.proofs.storing.stored.Goals as goal
 
 pub returns-in-SCSISEQ : goal.returns-in-SCSISEQ
 returns-in-SCSISEQ c =
-    let a = c.before.before.before.before in
-    rw (c.in-SCSISEQ.is, c.scsiseq_byte.ensures ∙ ap scsiseq_byte c.scsiseq_of.ensures) (put_scsiseq a.args.value a.args.m.now a.requires.image)
+    rw (c.in-SCSISEQ.is, c.scsiseq_byte.ensures ∙ ap scsiseq_byte c.scsiseq_of.ensures) (put_scsiseq c.args.value c.args.m.now c.requires.image)
 
 pub returns-in-SXFRCTL0 : goal.returns-in-SXFRCTL0
 returns-in-SXFRCTL0 c =
-    let a = c.before.before.before.before in
-    rw (c.in-SXFRCTL0.is, c.sxfrctl0_byte.ensures ∙ ap sxfrctl0_byte c.sxfrctl0_of.ensures) (put_sxfrctl0 a.args.value a.args.m.now a.requires.image)
+    rw (c.in-SXFRCTL0.is, c.sxfrctl0_byte.ensures ∙ ap sxfrctl0_byte c.sxfrctl0_of.ensures) (put_sxfrctl0 c.args.value c.args.m.now c.requires.image)
 
 pub returns-in-SXFRCTL1 : goal.returns-in-SXFRCTL1
 returns-in-SXFRCTL1 c =
-    let a = c.before.before.before.before in
-    rw (c.in-SXFRCTL1.is, c.sxfrctl1_byte.ensures ∙ ap sxfrctl1_byte c.sxfrctl1_of.ensures) (put_sxfrctl1 a.args.value a.args.m.now a.requires.image)
+    rw (c.in-SXFRCTL1.is, c.sxfrctl1_byte.ensures ∙ ap sxfrctl1_byte c.sxfrctl1_of.ensures) (put_sxfrctl1 c.args.value c.args.m.now c.requires.image)
 
 pub returns-in-SCSISIGO : goal.returns-in-SCSISIGO
 returns-in-SCSISIGO c =
-    let asked = c.before.before in
-    let a = asked.before.before.before in
-    rw (asked.in-SCSISIGO.is, c.scsisig_byte.ensures ∙ ap scsisig_byte c.scsisig_of.ensures) (put_scsisigo a.args.value a.args.m.now a.requires.image asked.atno.ensures)
+    rw (c.in-SCSISIGO.is, c.scsisig_byte.ensures ∙ ap scsisig_byte c.scsisig_of.ensures) (put_scsisigo c.args.value c.args.m.now c.requires.image c.atno.ensures)
 
 pub returns-in-SCSIRATE : goal.returns-in-SCSIRATE
 returns-in-SCSIRATE c =
-    let a = c.before.before in
-    rw c.in-SCSIRATE.is (put_scsirate a.args.value a.args.m.now a.requires.image)
+    rw c.in-SCSIRATE.is (put_scsirate c.args.value c.args.m.now c.requires.image)
 
 pub returns-in-SCSIID : goal.returns-in-SCSIID
 returns-in-SCSIID c =
-    let a = c.before.before in
-    rw c.in-SCSIID.is (put_scsiid a.args.value a.args.m.now a.requires.image)
+    rw c.in-SCSIID.is (put_scsiid c.args.value c.args.m.now c.requires.image)
 
 pub returns-in-SCSIDAT : goal.returns-in-SCSIDAT
 returns-in-SCSIDAT c =
-    let a = c.before.before in
-    rw c.in-SCSIDAT.is (put_scsidat a.args.value a.args.m.now a.requires.image)
+    rw c.in-SCSIDAT.is (put_scsidat c.args.value c.args.m.now c.requires.image)
 
 pub returns-in-CLRSINT1 : goal.returns-in-CLRSINT1
 returns-in-CLRSINT1 c =
@@ -53,28 +46,23 @@ returns-in-CLRSINT1 c =
 
 pub returns-in-SIMODE0 : goal.returns-in-SIMODE0
 returns-in-SIMODE0 c =
-    let a = c.before.before.before.before in
-    rw (c.in-SIMODE0.is, c.simode0_byte.ensures ∙ ap simode0_byte c.simode0_of.ensures) (put_simode0 a.args.value a.args.m.now a.requires.image)
+    rw (c.in-SIMODE0.is, c.simode0_byte.ensures ∙ ap simode0_byte c.simode0_of.ensures) (put_simode0 c.args.value c.args.m.now c.requires.image)
 
 pub returns-in-SIMODE1 : goal.returns-in-SIMODE1
 returns-in-SIMODE1 c =
-    let a = c.before.before.before.before in
-    rw (c.in-SIMODE1.is, c.simode1_byte.ensures ∙ ap simode1_byte c.simode1_of.ensures) (put_simode1 a.args.value a.args.m.now a.requires.image)
+    rw (c.in-SIMODE1.is, c.simode1_byte.ensures ∙ ap simode1_byte c.simode1_of.ensures) (put_simode1 c.args.value c.args.m.now c.requires.image)
 
 pub returns-in-DMACNTRL0 : goal.returns-in-DMACNTRL0
 returns-in-DMACNTRL0 c =
-    let a = c.before.before.before.before in
-    rw (c.in-DMACNTRL0.is, c.dmacntrl0_byte.ensures ∙ ap dmacntrl0_byte c.dmacntrl0_of.ensures) (put_dmacntrl0 a.args.value a.args.m.now a.requires.image)
+    rw (c.in-DMACNTRL0.is, c.dmacntrl0_byte.ensures ∙ ap dmacntrl0_byte c.dmacntrl0_of.ensures) (put_dmacntrl0 c.args.value c.args.m.now c.requires.image)
 
 pub returns-in-DMACNTRL1 : goal.returns-in-DMACNTRL1
 returns-in-DMACNTRL1 c =
-    let a = c.before.before.before.before in
-    rw (c.in-DMACNTRL1.is, c.dmacntrl1_byte.ensures ∙ ap (λ (r : Dmacntrl1). dmacntrl1_byte r 0) c.dmacntrl1_of.ensures) (put_dmacntrl1 a.args.value a.args.m.now a.requires.image)
+    rw (c.in-DMACNTRL1.is, c.dmacntrl1_byte.ensures ∙ ap (λ (r : Dmacntrl1). dmacntrl1_byte r 0) c.dmacntrl1_of.ensures) (put_dmacntrl1 c.args.value c.args.m.now c.requires.image)
 
 pub returns-in-BRSTCNTRL : goal.returns-in-BRSTCNTRL
 returns-in-BRSTCNTRL c =
-    let a = c.before.before in
-    rw c.in-BRSTCNTRL.is (put_brstcntrl a.args.value a.args.m.now a.requires.image)
+    rw c.in-BRSTCNTRL.is (put_brstcntrl c.args.value c.args.m.now c.requires.image)
 
 pub returns-in_default : goal.returns-in_default
 returns-in_default c =
@@ -82,4 +70,4 @@ returns-in_default c =
     let s = state_at x.m.now in
     unchanged (Write (offset_of x.register) x.value) x.m.now c.requires.image
     (unstored (offset_of x.register) x.value (Present x.register) c.requires.written s.registers
-    (far_from plain x.register c.in_default.in_default-own.keys14))
+    (far_from plain x.register (opened c.in_default.in_default-own.keys14)))
