@@ -1,0 +1,6 @@
+-- The chip is that of power reset.
+use Rattle.std.proofs.Common.{rules}
+use Rattle.stored.proofs.nothing_yet.Goals as goal
+
+pub returns : goal.returns
+returns c = rw c.power_reset-chip.ensures
