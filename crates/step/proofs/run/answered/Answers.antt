@@ -41,7 +41,7 @@ loop-i-preserved c =
     let t = c.loop-i-test.true in
     let l = c.loop-i in
     let a = c.args in
-    let same = record-answered.auto.1.1.1.0 in (
+    let same = record-answered.auto.answers in (
       omega (arith, l.invariant.0, t),
       l.invariant.1,
       l.invariant.2,

@@ -1,3 +1,4 @@
+use borrow.Author.Rules.{rules}
 -- The loop's invariant: as many of the bytes sent as passed stand in their places, and the length is as it was.
 use Prim.Native.Nat.{◌-◌}
 use mathlib.Core.Path.{◌≡◌, refl, sym, ◌∙◌}
@@ -9,7 +10,7 @@ use Rattle.strings.proofs.blocks.sent_stored.Goals.{Start}
 
 -- an array by value has its type's length
 eight : (c : Start) → length c.args.s.bytes ≡ 8
-eight c = sym (length-map c.args.s.bytes _) ∙ c.well_formed.0.1.1.0.1.0.1
+eight c = search rules
 
 pub loop-i-preserved : goal.loop-i-preserved
 loop-i-preserved c =

@@ -11,7 +11,7 @@ use Rattle.words.specs.Words.{Strung, strung, word_reads}
 use Rattle.strings.proofs.Going.{Turn, no_words, turned}
 use Rattle.strings.proofs.Fetching.{ReadRound, read_stops, read_begun, enough, there, next_read, all_read, no_bytes_lem}
 use Rattle.strings.proofs.reading.fetched_over.Goals as goal
-use Rattle.strings.proofs.reading.fetched_over.Goals.{After-loop-done, After-smaller-k, In-loop-done}
+use Rattle.strings.proofs.reading.fetched_over.Goals.{After-loop-done, After-smaller-k, In-loop-done, then-done-words, else-done-words}
 
 -- what a turn finds
 abbrev Round : List ℕ → ℕ → List ℕ → List ℕ → List ℕ → ℕ → ℕ → Type 0
@@ -63,8 +63,11 @@ loop-done-preserved c x before k =
 
 pub returns : goal.returns
 returns c =
-    ⊎_elim (λ w. all_read (at_end (goal.at.returns c).After-loop-done) w.0.taken w.1) (λ w. no_bytes_lem (at_end (goal.at.returns c).After-loop-done) c.loop-done-test.false w.0.left w.1)
-    c.if-done-words.branch
+    let end = at_end (goal.at.returns c).After-loop-done in
+    elim c.if-done-words.branch [
+      | then-done-words w ↦ all_read end w.if-done-words.true w.code-is
+      | else-done-words w ↦ no_bytes_lem end c.loop-done-test.false w.if-done-words.false w.code-is
+    ]
 
 pub overflow_sub-words : goal.overflow_sub-words
 overflow_sub-words c = (found (goal.at.overflow_sub-words c).In-loop-done).few

@@ -28,13 +28,16 @@ unfolding looked_at
 returns c =
     let m = c.args.m.now in
     let r = c.conditions_of-c.result in
-    let e = c.conditions_of-c.ensures in record { n_nonzero = λ h. (
+    let e = c.conditions_of-c.ensures in record {
+      n_nonzero = λ h. (
         omega (arith, c.if-n-eq0.false),
         none_held (state_at m).transfer.scsi (omega (arith, c.if-m-gt0.false, scsi_held m c.requires.image)),
         omega (arith, c.if-wide-n-gt255.false, c.wide.ensures, low_held m c.requires.image c.args.n),
-      ); m_value = λ h.
+      );
+      m_value = λ h.
           let both = left_true (r.enabled && r.outbound) r.synchronous h in (
             sym (ap (λ (d : Conditions). d.enabled) e) ∙ left_true r.enabled r.outbound both,
             sym (ap (λ (d : Conditions). d.outbound) e) ∙ right_true r.enabled r.outbound both,
             sym (ap (λ (d : Conditions). d.synchronous) e) ∙ right_true (r.enabled && r.outbound) r.synchronous h,
-          ) }
+          );
+    }
