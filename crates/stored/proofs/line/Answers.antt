@@ -1,5 +1,5 @@
 -- The first byte says what a line is.
-use Rattle.std.proofs.Common.{length, get_or, arith, rules, eq-eqb, ne_eqb}
+use Rattle.std.proofs.Common.{length, get_or, arith, eq-eqb, ne_eqb}
 use Rattle.stored.specs.Tallies.{after_line}
 use Rattle.stored.proofs.line.Goals as goal
 

@@ -1,5 +1,4 @@
 -- One field is changed.
-use Rattle.std.proofs.Common.{rules}
 use Rattle.stored.proofs.next_line.Goals as goal
 
 pub returns : goal.returns

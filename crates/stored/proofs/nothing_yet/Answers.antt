@@ -1,5 +1,4 @@
 -- The chip is that of power reset.
-use Rattle.std.proofs.Common.{rules}
 use Rattle.stored.proofs.nothing_yet.Goals as goal
 
 pub returns : goal.returns

@@ -1,5 +1,4 @@
 -- Where the event agrees, the count of one more.
-use Rattle.std.proofs.Common.{rules}
 use Rattle.stored.proofs.one_more_if.Goals as goal
 
 pub returns-then-agrees : goal.returns-then-agrees

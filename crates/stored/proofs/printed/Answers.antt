@@ -1,5 +1,5 @@
 -- Room for one line, and one answer.
-use Rattle.std.proofs.Common.{arith, rules}
+use Rattle.std.proofs.Common.{arith}
 use Rattle.stored.proofs.Events.{line_of_lem}
 use Rattle.stored.proofs.printed.Goals as goal
 

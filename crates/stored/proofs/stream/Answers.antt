@@ -1,5 +1,4 @@
 -- The chip is that of power reset, and one field counts.
-use Rattle.std.proofs.Common.{rules}
 use Rattle.stored.specs.Tallies.{after_stream}
 use Rattle.stored.proofs.stream.Goals as goal
 

@@ -1,5 +1,4 @@
 -- The chip is the one given, and two fields count.
-use Rattle.std.proofs.Common.{rules}
 use Rattle.stored.specs.Tallies.{with_event}
 use Rattle.stored.proofs.with_event.Goals as goal
 

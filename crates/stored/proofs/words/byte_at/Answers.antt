@@ -1,5 +1,5 @@
 -- Two digits of at most 16 fit.
-use Rattle.std.proofs.Common.{◌+◌, ◌*◌, arith, rules}
+use Rattle.std.proofs.Common.{◌+◌, ◌*◌, arith}
 use Rattle.stored.proofs.Places.{digit_at_le}
 use Rattle.stored.specs.Words.{byte_at}
 use Rattle.stored.proofs.words.byte_at.Goals as goal

@@ -1,5 +1,5 @@
 -- Inside the text and past it.
-use Rattle.std.proofs.Common.{length, arith, rules, le-ltb, lt-ltb}
+use Rattle.std.proofs.Common.{length, arith, le-ltb, lt-ltb}
 use Rattle.stored.specs.Words.{digit_at}
 use Rattle.stored.proofs.words.digit_at.Goals as goal
 

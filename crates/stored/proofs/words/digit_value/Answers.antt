@@ -1,5 +1,4 @@
 -- The sixteen digits are those of the definition.
-use Rattle.std.proofs.Common.{rules}
 use Rattle.stored.specs.Words.{digit_value}
 use Rattle.stored.proofs.words.digit_value.Goals as goal
 

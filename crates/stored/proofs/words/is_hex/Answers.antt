@@ -1,6 +1,5 @@
 -- The loop's invariant: every byte passed is a digit.
-use Rattle.std.proofs.Common.{◌≡◌, ◌-◌, ◌≤◌, length, drop, sym, refl, ◌∙◌, arith, rules}
-use Rattle.stored.specs.Words.{is_hex}
+use Rattle.std.proofs.Common.{sym, refl, ◌∙◌, arith}
 use Rattle.stored.proofs.Places.{hex_here, hex_next, hex_none}
 use Rattle.stored.proofs.words.is_hex.Goals as goal
 

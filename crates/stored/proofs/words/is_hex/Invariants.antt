@@ -1,7 +1,6 @@
 -- The loop's invariant: every byte passed is a digit.
-use Rattle.std.proofs.Common.{◌≡◌, ◌-◌, ◌≤◌, length, drop, sym, refl, ◌∙◌, arith, rules}
+use Rattle.std.proofs.Common.{◌≡◌, ◌-◌, ◌≤◌, length, drop}
 use Rattle.stored.specs.Words.{is_hex}
-use Rattle.stored.proofs.Places.{hex_here, hex_next, hex_none}
 use Rattle.stored.proofs.words.is_hex.Given as goal
 
 abbrev pub invariant-loop-i : goal.invariant-loop-i

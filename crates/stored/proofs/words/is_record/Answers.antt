@@ -1,5 +1,4 @@
 -- The digits' test is that of the definition.
-use Rattle.std.proofs.Common.{rules}
 use Rattle.stored.specs.Words.{is_record}
 use Rattle.stored.proofs.words.is_record.Goals as goal
 

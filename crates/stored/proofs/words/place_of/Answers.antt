@@ -1,6 +1,5 @@
 -- The loop's invariant: no byte passed is the one looked for.
-use Rattle.std.proofs.Common.{◌≡◌, ◌+◌, ◌-◌, ◌≤◌, length, drop, arith}
-use Rattle.stored.specs.Words.{place_of}
+use Rattle.std.proofs.Common.{arith}
 use Rattle.stored.proofs.Places.{place_here, place_next, place_none}
 use Rattle.stored.proofs.words.place_of.Goals as goal
 

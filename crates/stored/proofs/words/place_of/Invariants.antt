@@ -1,7 +1,6 @@
 -- The loop's invariant: no byte passed is the one looked for.
-use Rattle.std.proofs.Common.{◌≡◌, ◌+◌, ◌-◌, ◌≤◌, length, drop, arith}
+use Rattle.std.proofs.Common.{◌≡◌, ◌+◌, ◌-◌, ◌≤◌, length, drop}
 use Rattle.stored.specs.Words.{place_of}
-use Rattle.stored.proofs.Places.{place_here, place_next, place_none}
 use Rattle.stored.proofs.words.place_of.Given as goal
 
 abbrev pub invariant-loop-i : goal.invariant-loop-i
