@@ -8,7 +8,7 @@ use Rattle.rules.specs.declared.chip.Chip.{Chip}
 use Rattle.hexlines.specs.Hex.{lines_of}
 use Rattle.adapter.specs.declared.Printed.{Printed}
 use Rattle.adapter.specs.declared.Received.{Received}
-use Rattle.adapter.specs.Texts.{stepped, printed, answered, IsPrinted, left_over, tail_from, IsReceived, with_front, whole_end, whole, IsAfterRead}
+use Rattle.adapter.specs.Texts.{stepped, printed, answered, IsPrinted, left_over, tail_from, IsReceived, with_front, IsAfterRead}
 
 -- the size is known by the records and the room
 sized : {c : Chip} {bytes before now : List ℕ} {p : Printed} → IsPrinted c bytes before now p → IsPrinted c bytes before now (record { chip = p.chip; size = 33 * printed bytes before })

@@ -6,6 +6,8 @@ ghost use Rattle.adapter.specs.Texts.{IsPrinted, IsReceived, IsAfterRead, answer
 
 use rules::chip::Chip;
 use rules::records::{ANSWER_SIZE, RECORD_SIZE};
+use std::env::{Env, FillError};
+use std::io::{ErrorKind, IsTerminal, Read};
 
 // One read of 4,096 bytes behind a piece of a record: 1,025 records, their answers and their lines.
 const INPUT_SIZE: usize = 4100;
@@ -55,13 +57,10 @@ fn print(c: Chip, records: &[u8], answers: &mut [u8], text: &mut [u8]) -> Printe
 }
 
 // A failed read: its message, and nothing held, since the bytes kept are no record before the end of the input.
-fn read_failed() -> Received
+fn read_failed(rt: &HostRuntime) -> Received
     ensures { result ≡ nothing }
 {
-    io::write_all(
-        2,
-        b"adapter: the input could not be read; the answers are not complete\n",
-    );
+    let _ = eprintln!(rt; "adapter: the input could not be read; the answers are not complete");
     Received {
         held: 0,
         is_end: true,
@@ -69,19 +68,17 @@ fn read_failed() -> Received
 }
 
 // One read behind the bytes kept.
-fn receive(input: &mut [u8], kept: usize) -> Received
+fn receive(rt: &HostRuntime, input: &mut [u8], kept: usize) -> Received
     requires { kept ≤ length input.old }
     ensures { IsReceived kept input.old input.new result }
 {
-    let got = libc::read(0, &mut input[kept..]);
-    if got < 0 {
-        read_failed()
-    } else {
-        let more = io::count(got, &input[kept..]);
-        Received {
+    let got = rt.stdin().read(&mut input[kept..]);
+    match got {
+        Ok(more) => Received {
             held: kept + more,
             is_end: more == 0,
-        }
+        },
+        Err(_) => read_failed(rt),
     }
 }
 
@@ -110,20 +107,24 @@ fn tail(bytes: &[u8], from: usize) -> [u8; RECORD_SIZE]
     [first, second, third, 0]
 }
 
-// Writes the lines. A closed pipe ends the program within the write, so a message comes only where the output is at fault.
-fn send(lines: &[u8]) -> bool {
-    let is_written = io::write_all(1, lines);
-    if !is_written {
-        io::write_all(
-            2,
-            b"adapter: the output could not be written; the answers are not complete\n",
-        );
+// Writes the lines. Nobody reads a closed pipe any more, so a message comes only where the output is at fault.
+fn send(rt: &HostRuntime, lines: &[u8]) -> bool {
+    match rt.stdout().write_all(lines) {
+        Ok(()) => true,
+        Err(e) => {
+            if e.kind() != ErrorKind::BrokenPipe {
+                let _ = eprintln!(rt;
+                    "adapter: the output could not be written; the answers are not complete"
+                );
+            }
+            false
+        }
     }
-    is_written
 }
 
 // One read, so that answers come as soon as their records do. Nothing is read of what an earlier turn left in the arrays.
 fn one_read(
+    rt: &HostRuntime,
     c: Chip,
     left: [u8; RECORD_SIZE],
     kept: usize,
@@ -140,13 +141,13 @@ fn one_read(
     input[0] = left[0];
     input[1] = left[1];
     input[2] = left[2];
-    let received = receive(input, kept);
+    let received = receive(rt, input, kept);
     let is_end = received.is_end;
     let held = received.held;
     let rest = left_over(held, is_end);
     let end = held - rest;
     let p = print(c, &input[..end], answers, text);
-    let is_written = send(&text[..p.size]);
+    let is_written = send(rt, &text[..p.size]);
     let left = tail(&input[..held], end);
     let chip = p.chip;
     AfterRead {
@@ -160,7 +161,7 @@ fn one_read(
 }
 
 // The records of the standard input from power reset on, read by read.
-fn answer_all() {
+fn answer_all(rt: &HostRuntime) {
     let mut chip = step::reset::power_reset();
     let mut left = [0u8; RECORD_SIZE];
     let mut kept = 0usize;
@@ -170,7 +171,7 @@ fn answer_all() {
     let mut answers = [0u8; ANSWERS_SIZE];
     let mut text = [0u8; TEXT_SIZE];
     while turns > 0 && more {
-        let t = one_read(chip, left, kept, &mut input, &mut answers, &mut text);
+        let t = one_read(rt, chip, left, kept, &mut input, &mut answers, &mut text);
         chip = t.chip;
         left = t.left;
         kept = t.kept;
@@ -180,22 +181,25 @@ fn answer_all() {
 }
 
 // One line for whoever started the program with an argument, or with a terminal as its input.
-fn say_what_is_read() {
-    io::write_all(
-        2,
-        b"adapter: reads event records, four raw bytes each, on standard input and takes no arguments: adapter < records\n",
+fn say_what_is_read(rt: &HostRuntime) {
+    let _ = eprintln!(rt;
+        "adapter: reads event records, four raw bytes each, on standard input and takes no arguments: adapter < records"
     );
 }
 
-fn main() {
-    let words = os::arg_count();
-    if words > 1 {
-        say_what_is_read();
+// Whether anything stands behind the program's name; what it is, is not asked.
+fn has_argument(rt: &HostRuntime) -> bool {
+    let mut first = [0u8; 1];
+    !matches!(rt.arg(1, &mut first), Err(FillError::NotPresent))
+}
+
+fn main(rt: HostRuntime) {
+    if has_argument(&rt) {
+        say_what_is_read(&rt);
         return;
     }
-    let is_terminal = libc::isatty(0);
-    if is_terminal == 1 {
-        say_what_is_read();
+    if rt.stdin().is_terminal() {
+        say_what_is_read(&rt);
     }
-    answer_all();
+    answer_all(&rt);
 }

@@ -1,6 +1,8 @@
 // The worked cases of the documents, on the proved step.
 #![tactic(auto)]
 
-fn main() {
-    stored::run();
+use std::io;
+
+fn main(rt: HostRuntime) -> io::Result<()> {
+    stored::run(&rt)
 }

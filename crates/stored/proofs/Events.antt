@@ -1,6 +1,6 @@
 -- An answer's digits, and the event that a stored answer is compared with.
 use Rattle.std.proofs.Common.{◌≡◌, ℕ, ◌*◌, ◌≤◌, Bool, true, false, eqb, List, [], ◌∷◌, ◌++◌, length, take, drop, replicate, sym, refl, ap, ◌∙◌, append-nil, arith, take_all, take_at, eq-eqb, ne_eqb, eqb-true}
-use Rattle.hexlines.specs.Hex.{hex_of, line_of, lines_of, answers_in, Printed}
+use Rattle.hexlines.specs.Hex.{hex_of, line_of, answers_in, Printed}
 use Rattle.rules.specs.Chips.{view, chip_of}
 use Rattle.rules.specs.Step.{step, answer, called}
 use Rattle.rules.specs.declared.chip.Chip.{Chip}

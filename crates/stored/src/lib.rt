@@ -3,12 +3,13 @@
 // what follows a second space, a line that starts with # and an empty line are comments.
 #![tactic(auto)]
 
-ghost use Rattle.std.specs.Prelude.{◌≡◌, length, if◌then◌else◌};
+ghost use Rattle.std.specs.Prelude.{◌≡◌, ◌≤◌, length, if◌then◌else◌};
 ghost use Rattle.hexlines.specs.Hex.{line_of};
 ghost use Rattle.stored.specs.Tallies.{one_more, nothing_yet, next_line, after_stream, with_event, after_event, after_event_line, after_line, tally_of};
 
-use libc::STDOUT_FILENO;
 use rules::chip::Chip;
+use std::io;
+use std::io::Read;
 use step::reset::power_reset;
 
 mod words;
@@ -28,32 +29,36 @@ struct Tally {
 fn one_more(n: u64) -> u64
     ensures { result ≡ one_more n }
 {
-    std::num::wrapping_add_u64(n, 1)
+    n.wrapping_add(1)
 }
 
-fn say(text: &[u8]) {
-    io::write_all(STDOUT_FILENO, text);
+fn say(rt: &HostRuntime, text: &[u8]) -> io::Result<()> {
+    rt.write_all(text)
 }
 
-fn say_line(line: u64) {
-    say(b"line ");
-    io::print_decimal(STDOUT_FILENO, line);
-    say(b": ");
+fn say_line(rt: &HostRuntime, line: u64) -> io::Result<()> {
+    print!(rt; "line {line}: ")
 }
 
-fn say_difference(line: u64, named: &[u8], stored: &[u8], came: &[u8]) {
-    say_line(line);
-    say(named);
-    say(b" stored ");
-    say(stored);
-    say(b" came ");
-    say(came);
-    say(b"\n");
+fn say_difference(
+    rt: &HostRuntime,
+    line: u64,
+    named: &[u8],
+    stored: &[u8],
+    came: &[u8],
+) -> io::Result<()> {
+    say_line(rt, line)?;
+    say(rt, named)?;
+    say(rt, b" stored ")?;
+    say(rt, stored)?;
+    say(rt, b" came ")?;
+    say(rt, came)?;
+    say(rt, b"\n")
 }
 
-fn say_unreadable(line: u64) {
-    say_line(line);
-    say(b"cannot be read\n");
+fn say_unreadable(rt: &HostRuntime, line: u64) -> io::Result<()> {
+    say_line(rt, line)?;
+    say(rt, b"cannot be read\n")
 }
 
 // A stream starts from power reset.
@@ -94,23 +99,23 @@ fn printed(answer: &[u8; 16]) -> [u8; 33]
 }
 
 // One record on the chip; its answer is compared as it prints.
-fn event(t: Tally, bytes: &[u8], named: &[u8], stored: &[u8]) -> Tally
+fn event(rt: &HostRuntime, t: Tally, bytes: &[u8], named: &[u8], stored: &[u8]) -> Tally
     ensures { result ≡ after_event t bytes.now stored.now }
 {
     let mut answer = [0u8; 16];
     let chip = t.chip;
     let returned = step::step(chip, bytes, &mut answer);
     let came = printed(&answer);
-    let is_same = check::same(stored, &came[..32]);
+    let is_same = stored == &came[..32];
     if !is_same {
-        say_difference(t.line, named, stored, &came[..32]);
+        let _ = say_difference(rt, t.line, named, stored, &came[..32]);
     }
     let after = returned.chip;
     with_event(t, after, is_same)
 }
 
 // A record, a space and its answer.
-fn event_line(t: Tally, text: &[u8]) -> Tally
+fn event_line(rt: &HostRuntime, t: Tally, text: &[u8]) -> Tally
     ensures { result ≡ after_event_line t text.now }
 {
     let end = word_end(text);
@@ -118,16 +123,16 @@ fn event_line(t: Tally, text: &[u8]) -> Tally
     let count = named.count;
     let bytes = named.bytes;
     if count == 0 {
-        say_unreadable(t.line);
+        let _ = say_unreadable(rt, t.line);
         return t;
     }
     let from = next(text, end);
     let rest = &text[from..];
     let stop = word_end(rest);
-    event(t, &bytes[..count], &text[..end], &rest[..stop])
+    event(rt, t, &bytes[..count], &text[..end], &rest[..stop])
 }
 
-fn line(t: Tally, text: &[u8]) -> Tally
+fn line(rt: &HostRuntime, t: Tally, text: &[u8]) -> Tally
     ensures { result ≡ after_line t text.now }
 {
     if text.len() == 0 {
@@ -137,7 +142,7 @@ fn line(t: Tally, text: &[u8]) -> Tally
     match first {
         b'#' => t,
         b'=' => stream(t),
-        _ => event_line(t, text),
+        _ => event_line(rt, t, text),
     }
 }
 
@@ -163,7 +168,7 @@ fn nothing_yet() -> Tally
 }
 
 // Every line of a text.
-fn compared(text: &[u8]) -> Tally
+fn compared(rt: &HostRuntime, text: &[u8]) -> Tally
     ensures { result ≡ tally_of text.now }
 {
     let mut t = nothing_yet();
@@ -171,19 +176,17 @@ fn compared(text: &[u8]) -> Tally
     while at < text.len() {
         let rest = &text[at..];
         let end = line_end(rest);
-        t = line(next_line(t), &rest[..end]);
+        t = line(rt, next_line(t), &rest[..end]);
         at += next(rest, end);
     }
     t
 }
 
-fn say_end(t: Tally) {
-    io::print_decimal(STDOUT_FILENO, t.agreed);
-    say(b" of ");
-    io::print_decimal(STDOUT_FILENO, t.events);
-    say(b" events in ");
-    io::print_decimal(STDOUT_FILENO, t.streams);
-    say(b" streams agree\n");
+fn say_end(rt: &HostRuntime, t: Tally) -> io::Result<()> {
+    let agreed = t.agreed;
+    let events = t.events;
+    let streams = t.streams;
+    println!(rt; "{agreed} of {events} events in {streams} streams agree")
 }
 
 // Room for a MiB.
@@ -193,12 +196,26 @@ fn room() -> [u8; 1048576]
     [0; 1048576]
 }
 
-// Standard input, below a MiB, compared; each difference and the count of all on standard output.
-pub fn run() {
-    let mut input = room();
-    let n = io::read_full(0, &mut input);
-    if n == 1048576 {
-        say(b"the input is too long\n");
+// How many bytes stand at the front once it is full or the input at its end; a read that fails ends it too.
+fn read_full(rt: &HostRuntime, input: &mut [u8]) -> usize
+    ensures { result ≤ length input.new }
+{
+    let mut n: usize = 0;
+    while n < input.len() {
+        match rt.stdin().read(&mut input[n..]) {
+            Ok(0) | Err(_) => break,
+            Ok(more) => n += more,
+        }
     }
-    say_end(compared(&input[..n]));
+    n
+}
+
+// Standard input, below a MiB, compared; each difference and the count of all on standard output.
+pub fn run(rt: &HostRuntime) -> io::Result<()> {
+    let mut input = room();
+    let n = read_full(rt, &mut input);
+    if n == 1048576 {
+        let _ = say(rt, b"the input is too long\n");
+    }
+    say_end(rt, compared(rt, &input[..n]))
 }

@@ -1,6 +1,8 @@
 // Streams by seed with the second implementation's answers, on the proved step.
 #![tactic(auto)]
 
-fn main() {
-    stored::run();
+use std::io;
+
+fn main(rt: HostRuntime) -> io::Result<()> {
+    stored::run(&rt)
 }

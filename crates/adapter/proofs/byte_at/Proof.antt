@@ -1,9 +1,0 @@
-use mathlib.Core.Path.{sym}
-use native.Mathlib.Omega.{arith}
-use borrow.Author.Rules.{rules}
-use lib.ListN.{get_or-eq_default}
-use Rattle.adapter.proofs.byte_at.Statement.{statement}
-use Rattle.adapter.proofs.byte_at.Tie as tie
-
-pub byte_at_spec : {M : Type 1} → statement M
-byte_at_spec = tie.close (tie.spec (λ c. search rules) (λ c. search rules) (λ c. sym (get_or-eq_default c.before.args.bytes.now 0 (omega arith))))
