@@ -17,7 +17,7 @@ use Rattle.runs.proofs.Examples.{follows}
 use Rattle.runs.proofs.Tests.{same_eq}
 use Rattle.driver.specs.Exchanges.{Exchange, is_answered, handed, accepted_of, offered_of, read_of, may_come, all_over, over, counter_of}
 use Rattle.driver.specs.Driving.{Offers, Round, all_rounds, Follows, Clears, DrivesBlind, taken_so_far}
-use Rattle.driver.specs.Calls.{Ranged, Trace, Call, Calls, exchanges_of as exchangesOfCalls}
+use Rattle.driver.specs.Calls.{Trace, Call, Calls, exchanges_of as exchangesOfCalls}
 use Rattle.driver.specs.DemandThree.{state_after, ReadMoment}
 use Rattle.driver.proofs.Steps.{trace_calls}
 use Rattle.driver.proofs.DemandThree.{demand_three, reset_ranged}

@@ -3,7 +3,7 @@ use mathlib.Core.Path.{◌≡◌, refl, ap, ap₂, sym, ◌∙◌}
 use mathlib.Core.Bool.{Bool, true, false, not, ◌||◌}
 use mathlib.Core.List.{List, [], ◌∷◌, ◌++◌, append_assoc}
 use Prim.Native.Nat.{ℕ, ◌+◌, ◌≤◌}
-use lib.ListN.{length, drop}
+use lib.ListN.{length}
 use borrow.Author.Tests.{not-true}
 use Rattle.rules.specs.State.{State}
 use Rattle.rules.specs.Events.{writes}
@@ -21,7 +21,7 @@ use Rattle.runs.proofs.Cut.{all_come_more, cut_and_read}
 use Rattle.runs.proofs.Rounds.{only_taken_is_sent, idle_after_cut}
 use Rattle.runs.proofs.Sequence.{Works, clearing_works, short_clearing_works}
 use Rattle.runs.proofs.StaysIdle.{off_along}
-use Rattle.driver.specs.Exchanges.{Exchange, handed, handed_over, counter_of}
+use Rattle.driver.specs.Exchanges.{Exchange, handed_over, counter_of}
 use Rattle.driver.specs.Driving.{Round, exchanges_of, whole_round, Chain, all_rounds, taken, Drives, last_records, may_precede, Clears, AllClear, Rounds, DrivesBlind}
 use Rattle.driver.specs.Calls.{Ranged, Trace}
 use Rattle.driver.proofs.Traces.{handed_append, trace_append, ranged_after, comes_along}

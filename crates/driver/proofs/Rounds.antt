@@ -1,8 +1,8 @@
 -- The cut and the chain over a trace: the rounds of a driver's exchanges are rounds of the definition.
 use mathlib.Core.Path.{◌≡◌, refl, ap, ap₂, sym, ◌∙◌}
-use mathlib.Core.Bool.{Bool, true}
+use mathlib.Core.Bool.{true}
 use mathlib.Core.List.{List, [], ◌∷◌, ◌++◌, append_assoc}
-use Prim.Native.Nat.{ℕ, ◌+◌, ◌*◌, ◌%◌, ◌≤◌}
+use Prim.Native.Nat.{ℕ, ◌+◌, ◌%◌, ◌≤◌}
 use native.Mathlib.Omega.{arith}
 use lib.ListN.{length, take, drop}
 use Rattle.rules.specs.State.{State}
@@ -10,19 +10,19 @@ use Rattle.rules.specs.Step.{step, after}
 use Rattle.rules.specs.declared.map.Register.{Register}
 use Rattle.rules.specs.declared.map.Register.TheVariants.{STCNT0, STCNT1, STCNT2}
 use Rattle.runs.specs.Comes.{all_come, along}
-use Rattle.runs.specs.Run.{Starts, run_allows, accepted, sent_by, chip_took}
+use Rattle.runs.specs.Run.{Starts, run_allows, accepted, sent_by}
 use Rattle.runs.specs.Cut.{calm, read_answers}
 use Rattle.runs.specs.Rounds as records
-use Rattle.runs.proofs.Along.{after_append, along_append}
-use Rattle.runs.proofs.Cut.{CutAndRead, cut_and_read, still_a_run}
+use Rattle.runs.proofs.Along.{after_append}
+use Rattle.runs.proofs.Cut.{cut_and_read, still_a_run}
 use Rattle.runs.proofs.Rounds.{chain_going}
 use Rattle.runs.proofs.Stages.{held_at_start}
-use Rattle.driver.specs.Exchanges.{Exchange, handed, handed_over, code_of, taken_of, accepted_of, read_of, over, register_read, counter_of, bytes_taken}
-use Rattle.driver.specs.Driving.{Round, exchanges_of, whole_round, taken_in, Keeps, Follows, Goes, Chain, all_rounds, taken, reached, Drives, taken_so_far}
+use Rattle.driver.specs.Exchanges.{Exchange, handed, handed_over, taken_of, accepted_of, over, register_read, counter_of}
+use Rattle.driver.specs.Driving.{Round, exchanges_of, whole_round, taken_in, Keeps, Chain, all_rounds, taken, reached, Drives, taken_so_far}
 use Rattle.driver.specs.Calls.{Ranged, Trace}
 use Rattle.driver.specs.DemandThree.{CutRead}
 use Rattle.driver.proofs.Shown.{code_shown, done_by_number}
-use Rattle.driver.proofs.Traces.{handed_append, over_append, trace_append, ranged_step, ranged_after, accepted_along, registers_along, comes_along, offers_along, taken_along}
+use Rattle.driver.proofs.Traces.{handed_append, trace_append, ranged_step, ranged_after, accepted_along, registers_along, comes_along, offers_along, taken_along}
 
 -- the records of a round
 abbrev pub records_in : Round → records.Round

@@ -1,6 +1,6 @@
 -- What a buffer shows of the step: the code, the ACKs, the bytes taken and the value, for one exchange.
 use mathlib.Core.Path.{◌≡◌, refl, ap, sym, ◌∙◌}
-use mathlib.Core.Bool.{Bool, true, false, not, ◌&&◌, ◌||◌, cond}
+use mathlib.Core.Bool.{Bool, true, false, not, ◌&&◌, cond}
 use mathlib.Core.List.{List, [], ◌∷◌}
 use Prim.Native.Nat.{ℕ, ◌+◌, ◌*◌, ◌/◌, ◌%◌, ◌≤◌, ◌<◌}
 use native.Mathlib.Omega.{arith}
@@ -9,7 +9,7 @@ use lib.ListN.{length, take, drop, get_or}
 use Rattle.rules.specs.Numbers.{one}
 use Rattle.rules.specs.State.{State}
 use Rattle.rules.specs.Records.{decode}
-use Rattle.rules.specs.Events.{offered, asked, port_read, reads}
+use Rattle.rules.specs.Events.{asked, reads}
 use Rattle.rules.specs.Codes.{number_of, is_done, is_refusal}
 use Rattle.rules.specs.Interrupts.{irq}
 use Rattle.rules.specs.Answers.{answer_of, answer_bytes}
@@ -23,11 +23,11 @@ use Rattle.rules.proofs.Packing.{padded_take}
 use Rattle.rules.proofs.Ranges.{step_bytes}
 use Rattle.rules.proofs.Reports.{step_fits}
 use Rattle.step.proofs.Shows.{answer_code}
-use Rattle.runs.specs.Comes.{says, event_bytes, unless_refused, may_come as recordMayCome}
+use Rattle.runs.specs.Comes.{says, event_bytes, may_come as recordMayCome}
 use Rattle.runs.specs.Run.{accepted, sent_by, host_read, low_bytes}
 use Rattle.runs.specs.Cut.{read_answer}
 use Rattle.runs.proofs.ReadRun.{read_hands}
-use Rattle.driver.specs.Exchanges.{Exchange, is_answered, handed, code_of, is_refused, acks_of, taken_of, value_of, offered_of, accepted_of, read_of, may_come, register_read}
+use Rattle.driver.specs.Exchanges.{Exchange, is_answered, handed, code_of, is_refused, acks_of, taken_of, value_of, accepted_of, read_of, may_come, register_read}
 use Rattle.driver.specs.Calls.{Ranged}
 
 -- the first byte holds the ACKs below IRQ and the code

@@ -2,8 +2,7 @@
 use mathlib.Core.Path.{◌≡◌, refl, ap, sym, ◌∙◌}
 use mathlib.Core.Bool.{Bool, true, false, cond}
 use mathlib.Core.List.{List, [], ◌∷◌, ◌++◌, append_assoc}
-use Prim.Native.Nat.{ℕ, zero, suc, ◌*◌}
-use native.Mathlib.Omega.{arith}
+use Prim.Native.Nat.{ℕ, zero, suc}
 use lib.Dec.{eqb}
 use lib.ListN.{length, take, drop}
 use lib.Seq.{take_at, drop_at}
@@ -11,7 +10,7 @@ use borrow.Author.Tests.{eq-eqb}
 use Rattle.rules.specs.State.{State}
 use Rattle.rules.specs.Chips.{view, chip_of}
 use Rattle.rules.specs.Answers.{answer_size}
-use Rattle.rules.specs.Step.{Called, called, ended, refused, step, answer, after, answers}
+use Rattle.rules.specs.Step.{Called, called, ended, step, answer, after, answers}
 use Rattle.rules.specs.declared.chip.Chip.{Chip}
 use Rattle.rules.specs.declared.codes.Code.TheVariants.{Malformed}
 use Rattle.rules.proofs.Logic.{never}

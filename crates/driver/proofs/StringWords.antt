@@ -4,11 +4,10 @@ use mathlib.Core.Path.{◌≡◌, refl, ap, ap₂, sym, subst, ◌∙◌}
 use mathlib.Core.Bool.{Bool, true, false, cond, ◌||◌, not, beq, or-true}
 use mathlib.Core.List.{List, [], ◌∷◌, ◌++◌}
 use native.Mathlib.Omega.{arith}
-use borrow.Author.Tests.{lt-ltb}
 use lib.ListN.{length, take, drop}
 use Rattle.rules.specs.State.{State}
 use Rattle.rules.specs.Ranges.{Bytes}
-use Rattle.rules.specs.Records.{decode, fields_of, well_formed, payload_of}
+use Rattle.rules.specs.Records.{decode, fields_of, well_formed}
 use Rattle.rules.specs.Events.{offered, asked, writes, wide, port_write, port_read}
 use Rattle.rules.specs.Codes.{is_refusal, absent, test_value, shut, access_code}
 use Rattle.rules.specs.Step.{access, ended, step, answer, after}

@@ -3,7 +3,7 @@ use mathlib.Core.Path.{◌≡◌, refl, ap, ap₂, sym, ◌∙◌}
 use mathlib.Core.Bool.{Bool, true, ◌&&◌}
 use mathlib.Core.List.{List, [], ◌∷◌, ◌++◌, append_assoc}
 use Prim.Native.Nat.{ℕ}
-use lib.ListN.{length, take, drop}
+use lib.ListN.{length, drop}
 use Rattle.rules.specs.State.{State}
 use Rattle.rules.specs.Step.{step, after}
 use Rattle.rules.specs.declared.map.Register.{Register}
@@ -16,7 +16,7 @@ use Rattle.runs.specs.Cut.{read_answer}
 use Rattle.runs.specs.Rounds.{Offers as RecordsOffer}
 use Rattle.runs.proofs.Acks.{step_pairs}
 use Rattle.runs.proofs.Stages.{Held}
-use Rattle.driver.specs.Exchanges.{Exchange, handed, handed_over, code_of, taken_of, accepted_of, offered_of, read_of, may_come, all_over, over, register_read}
+use Rattle.driver.specs.Exchanges.{Exchange, handed, handed_over, taken_of, accepted_of, read_of, may_come, all_over, over, register_read}
 use Rattle.driver.specs.Driving.{Offers}
 use Rattle.driver.specs.Calls.{Ranged, Trace}
 use Rattle.driver.proofs.Shown.{accepted_shown, come_shown, register_shown, read_shown, taken_shown}

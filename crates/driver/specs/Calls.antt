@@ -1,7 +1,6 @@
 -- Calls of the public functions, and the exchanges that they are to a driver.
-use Rattle.std.specs.Prelude.{ℕ, zero, suc, ◌+◌, ◌*◌, ◌≡◌, true, List, [], ◌∷◌, length, take, drop}
+use Rattle.std.specs.Prelude.{ℕ, zero, suc, ◌≡◌, true, List, [], ◌∷◌, take, drop}
 use Rattle.rules.specs.State.{State}
-use Rattle.rules.specs.Chips.{view}
 use Rattle.rules.specs.Ranges.{InRange, InBytes}
 use Rattle.rules.specs.Step.{step, answer}
 use Rattle.rules.specs.declared.chip.Chip.{Chip}

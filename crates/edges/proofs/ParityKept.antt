@@ -1,13 +1,13 @@
 -- R-2's part of B: by what is found, in the bytes of an array, and beside the rest of B.
 use Prim.Native.Nat.{ℕ}
 use mathlib.Core.Path.{◌≡◌, refl, ap, sym, subst, ◌∙◌}
-use mathlib.Core.Bool.{Bool, true, false, not, ◌&&◌, ◌||◌, cond}
+use mathlib.Core.Bool.{Bool, true, false, ◌&&◌, cond}
 use mathlib.Core.List.{List}
 use lib.ListN.{get_or, set}
 use Rattle.rules.specs.Numbers.{one}
 use Rattle.rules.specs.State.{State}
 use Rattle.rules.specs.Ranges.{InRange, InBytes}
-use Rattle.rules.specs.Seen.{rst_seen, bsy_seen, sel_seen, io_seen, req_seen, connected, matched, synchronous, limit, data_seen, parity_seen, parity_even, byte_driving, byte_driven, driving, data_driven, parity_driven}
+use Rattle.rules.specs.Seen.{rst_seen, bsy_seen, sel_seen, io_seen, connected, matched, synchronous, limit, data_seen, parity_seen, parity_even, byte_driving, byte_driven, driving, data_driven, parity_driven}
 use Rattle.rules.specs.StepB.{parity_bad, kept_after, error_latched, beyond_limit, late_byte, quiet_after}
 use Rattle.rules.specs.Changed.{with_latches, with_kept}
 use Rattle.rules.specs.declared.chip.Latches.{Latches}
@@ -19,7 +19,6 @@ use Rattle.edges.specs.From.{rst_rises_from, req_rises_from, synchronous_req_fro
 use Rattle.edges.specs.ParityKept.{error_or, kept_of, kept_from}
 use Rattle.edges.specs.Stored.{latches_stored}
 use Rattle.edges.specs.Tests.{inbound_even, inbound_bad}
-use Rattle.edges.specs.declared.edges.Edges.{Edges}
 use Rattle.edges.proofs.Laws.{inbound_even_lem}
 use Rattle.rules.proofs.Logic.{left_true, right_true}
 

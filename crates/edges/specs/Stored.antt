@@ -7,7 +7,7 @@ use Rattle.rules.specs.declared.chip.Status.{Status}
 use Rattle.edges.specs.Components.{scsiseq_b, sxfrctl0_b, scsisig_b}
 use Rattle.edges.specs.ParityKept.{error_or}
 use Rattle.image.specs.Image.{state_at, scsisig_byte, sequencer_byte, status_of, status_byte, latches_of, latches_byte}
-use Rattle.image.specs.Layout.{ack_place, latches_place, offset_place, scsi_bytes_place, scsi_count_place, scsiseq_place, scsisig_place, sequencer_place, status_place, sxfrctl0_place}
+use Rattle.image.specs.Layout.{ack_place, latches_place, offset_place, scsiseq_place, scsisig_place, sequencer_place, status_place, sxfrctl0_place}
 
 -- 340h, 341h and 343h
 abbrev pub registers_stored : Bool → Bool → Bool → List ℕ → List ℕ

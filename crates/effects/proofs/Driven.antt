@@ -4,9 +4,8 @@ use mathlib.Core.Path.{◌≡◌, refl, sym, ◌∙◌}
 use mathlib.Core.List.{List, [], ◌∷◌, ◌++◌}
 use lib.ListN.{drop}
 use Rattle.rules.specs.State.{State}
-use Rattle.rules.specs.Events.{writes, reads, value_of, lines_after, offered, asked, port_write, ticks_of}
+use Rattle.rules.specs.Events.{writes, reads, value_of, lines_after, offered, asked, port_write}
 use Rattle.rules.specs.Codes.{access_code}
-use Rattle.rules.specs.Reads.{value_read}
 use Rattle.rules.specs.StepA.{clears, clears_latch, clears_error, clrstcnt, clrch, rstfifo, latch_access, automatic_ack, registers_a, host_a, counter_a, transfer_a, error_a, status_a, latches_a, stack_a, identity_a, sequencer_a, gives_up, selection_a, noted_a, selection_latches_a, after_a}
 use Rattle.rules.specs.declared.codes.Code.TheVariants.{Done}
 use Rattle.rules.specs.declared.records.Event.TheVariants.{WordWrite, WordRead, Drive, Ticks}

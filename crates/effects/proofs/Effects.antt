@@ -4,21 +4,18 @@ use mathlib.Core.Path.{◌≡◌, refl, ◌∙◌}
 use mathlib.Core.Bool.{Bool, false, not, ◌&&◌, or-false}
 use mathlib.Core.List.{List, [], ◌∷◌, ◌++◌}
 use native.Mathlib.Omega.{arith}
-use lib.ListN.{get_or}
-use Rattle.rules.specs.Numbers.{bit}
 use Rattle.rules.specs.Seen.{io_seen}
 use Rattle.rules.specs.State.{State}
 use Rattle.rules.specs.Stack.{stack_written, pointed}
 use Rattle.rules.specs.Codes.{access_code}
 use Rattle.rules.specs.Events.{writes, reads}
-use Rattle.rules.specs.StepA.{latch_access, automatic_ack, error_a, status_a, latches_a}
+use Rattle.rules.specs.StepA.{latch_access, automatic_ack, status_a, latches_a}
 use Rattle.rules.specs.declared.codes.Code.TheVariants.{Done}
 use Rattle.rules.specs.declared.map.Register.TheVariants.{SCSISEQ, SXFRCTL1, SCSISIGO, SCSIRATE, SCSIID, SIMODE0, SIMODE1, BRSTCNTRL}
 use Rattle.rules.specs.declared.records.Event.TheVariants.{Write, WordRead}
 use Rattle.rules.specs.Changed.{with_status, with_latches, with_stack}
 use Rattle.image.specs.Image.{state_at, IsImage}
 use Rattle.rules.specs.Changed.{with_host}
-use Rattle.image.specs.Layout.{control_place, status_place}
 use Rattle.datapath.specs.Fits.{counter_written}
 use Rattle.effects.specs.Writes.{Leaving, Does, Plain, Selects, storing, sequencing, kept, channel_cleared, counter_cleared, host_cleared, ack_counted}
 use Rattle.effects.proofs.StatesOfA.{Leaves}

@@ -1,7 +1,7 @@
 -- An event that is done, and one that is refused.
 use Prim.Native.Nat.{ℕ}
-use mathlib.Core.Path.{◌≡◌, refl, sym}
-use mathlib.Core.Bool.{true, false, not, cond}
+use mathlib.Core.Path.{◌≡◌}
+use mathlib.Core.Bool.{false}
 use mathlib.Core.List.{List}
 use Rattle.rules.specs.State.{State}
 use Rattle.rules.specs.Events.{ticks_of}

@@ -11,7 +11,7 @@ use Rattle.rules.specs.Ranges.{InRange, InBytes, EventFits}
 use Rattle.rules.specs.declared.codes.Code.TheVariants.{Done}
 use Rattle.rules.specs.declared.records.Event.{Event}
 use Rattle.rules.proofs.Ranges.{after_a_fits, bytes_after_a}
-use Rattle.image.specs.Image.{image_of, state_at, registers_at, lines_at, IsImage}
+use Rattle.image.specs.Image.{image_of, state_at, registers_at, IsImage}
 use Rattle.image.proofs.ReadBack.{read_back, is_image}
 
 module _ {m : List ℕ} (s : State) (e : m ≡ image_of s) (i : InRange s) (j : InBytes s) where

@@ -1,6 +1,6 @@
 -- The eighteen bits of a line event, byte by byte.
 use Prim.Native.Nat.{ℕ, ◌+◌, ◌*◌, ◌/◌, ◌%◌, ◌^◌, ◌<◌}
-use mathlib.Core.Path.{◌≡◌, refl, sym, ◌∙◌}
+use mathlib.Core.Path.{◌≡◌}
 use native.Mathlib.Omega.{arith}
 use Rattle.rules.specs.Numbers.{bit, one, byte_of}
 use Rattle.rules.specs.Records.{lines_of, payload_of}

@@ -5,7 +5,6 @@ use mathlib.Core.Bool.{Bool, false, ◌&&◌}
 use mathlib.Core.List.{List}
 use lib.Dec.{eqb}
 use lib.ListN.{drop, get_or}
-use Rattle.rules.specs.Numbers.{bit}
 use Rattle.rules.specs.Seen.{io_seen}
 use Rattle.rules.specs.State.{State}
 use Rattle.rules.specs.Map.{table, read_at}
@@ -19,7 +18,6 @@ use Rattle.rules.specs.declared.records.Event.TheVariants.{Read}
 use Rattle.rules.specs.Changed.{with_stack, with_identity}
 use Rattle.image.specs.Image.{state_at}
 use Rattle.rules.specs.Changed.{with_host}
-use Rattle.image.specs.Layout.{control_place, status_place}
 use Rattle.effects.specs.Writes.{ack_counted}
 use Rattle.effects.proofs.ReadLaws.{unheld}
 

@@ -7,7 +7,7 @@ use Rattle.rules.specs.State.{State}
 use Rattle.rules.specs.Events.{ticks_of}
 use Rattle.rules.specs.Codes.{access_code}
 use Rattle.rules.specs.Reads.{value_read}
-use Rattle.rules.specs.StepA.{registers_a, error_a, status_a, latches_a, after_a}
+use Rattle.rules.specs.StepA.{registers_a, status_a, latches_a, after_a}
 use Rattle.rules.specs.Ranges.{InRange, InBytes, EventFits}
 use Rattle.rules.specs.declared.registers.Registers.{Registers}
 use Rattle.rules.specs.declared.codes.Code.TheVariants.{Done}

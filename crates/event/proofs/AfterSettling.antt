@@ -1,5 +1,5 @@
 -- C and D as the code goes through them.
-use mathlib.Core.Path.{◌≡◌, refl, ap, sym, ◌∙◌}
+use mathlib.Core.Path.{◌≡◌, ap, sym}
 use Rattle.rules.specs.State.{State}
 use Rattle.rules.specs.Seen.{ack_seen, ack_driven}
 use Rattle.rules.specs.StepA.{after_a}

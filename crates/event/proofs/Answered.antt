@@ -2,12 +2,11 @@
 use mathlib.Core.Path.{◌≡◌, ap, sym, ◌∙◌}
 use mathlib.Core.List.{List}
 use Prim.Native.Nat.{ℕ}
-use Rattle.rules.specs.State.{State}
-use Rattle.rules.specs.Answers.{Stepped, answer_of, answer_bytes}
+use Rattle.rules.specs.Answers.{Stepped, answer_bytes}
 use Rattle.rules.specs.Ranges.{InRange, InBytes}
 use Rattle.rules.specs.Step.{step}
 use Rattle.rules.proofs.Ranges.{step_in_range, step_bytes}
-use Rattle.image.specs.Image.{image_of, state_at, IsImage}
+use Rattle.image.specs.Image.{state_at, IsImage}
 use Rattle.reads.specs.Answering.{answer_with}
 use Rattle.reads.proofs.AnswerParts.{answer_parts}
 use Rattle.effects.proofs.ImageOnward.{image_is, state_is}

@@ -1,5 +1,5 @@
 -- Ticks after the first: what some of them leave and report, and what more of them then do.
-use Prim.Native.Nat.{ℕ, zero, suc, ◌+◌, ◌-◌, ◌%◌, ◌<◌, ◌≤◌}
+use Prim.Native.Nat.{ℕ, suc, ◌+◌, ◌%◌, ◌<◌, ◌≤◌}
 use mathlib.Core.Bool.{Bool, true, false, cond, ◌&&◌}
 use mathlib.Core.Path.{◌≡◌, refl, ap, sym, subst, ◌∙◌}
 use mathlib.Core.List.{List, [], ◌∷◌, ◌++◌, append-nil}
@@ -25,7 +25,7 @@ use Rattle.rules.proofs.Still.{single_rests}
 use Rattle.rules.proofs.TickByTick.{ticks_code, steady, steady_more, joined_none, ticks_split, round}
 use Rattle.image.specs.Image.{image_of, state_at, IsImage}
 use Rattle.effects.proofs.ImageOnward.{state_is, image_is}
-use Rattle.fifos.specs.Fifos.{sent_of, sent_view, SentTidy}
+use Rattle.fifos.specs.Fifos.{sent_of, sent_view}
 use Rattle.fifos.specs.declared.sent.Sent.{Sent}
 use Rattle.fifos.proofs.Behind.{view_of, tidy_of}
 use Rattle.settling.specs.declared.Told.{Told}

@@ -2,14 +2,13 @@
 use Prim.Native.Nat.{ℕ, zero, suc, ◌+◌, ◌-◌, ◌<◌, ◌≤◌, min}
 use mathlib.Core.Bool.{Bool, true, false, ◌&&◌, cond, false≢true}
 use mathlib.Core.Path.{◌≡◌, refl, ap, sym, subst, ◌∙◌}
-use mathlib.Core.List.{List, [], ◌++◌, append-nil}
+use mathlib.Core.List.{List, ◌++◌, append-nil}
 use native.Mathlib.Omega.{arith}
 use native.Mathlib.Nat.{add-zero}
 use lib.Dec.{eqb}
 use lib.ListN.{length, length-append}
 use Rattle.rules.specs.State.{State}
 use Rattle.rules.specs.Answers.{Stepped}
-use Rattle.rules.specs.Ranges.{InRange, InBytes}
 use Rattle.rules.specs.Rest.{AtRest}
 use Rattle.rules.specs.Step.{ended, done, access, joined, single_ticks}
 use Rattle.rules.specs.declared.codes.Code.TheVariants.{Done}

@@ -9,11 +9,10 @@ use lib.Dec.{eqb}
 use lib.ListN.{length, take, drop, get_or, length-append, drop_of_length-le}
 use lib.Seq.{take_all}
 use borrow.Author.Tests.{eq-eqb, ne_eqb}
-use Rattle.rules.specs.State.{State}
 use Rattle.rules.specs.Records.{decode}
-use Rattle.rules.specs.Answers.{Stepped, answer_of, answer_bytes, answer_size}
+use Rattle.rules.specs.Answers.{Stepped, answer_of, answer_bytes}
 use Rattle.rules.specs.declared.codes.Code.TheVariants.{Malformed}
-use Rattle.rules.specs.Step.{Called, step_decoded, step, answer, called, after, answers}
+use Rattle.rules.specs.Step.{Called, step, answer, called, after, answers}
 use Rattle.image.specs.Image.{IsImage, image_of, state_at}
 use Rattle.saved.specs.Accepted.{accepted}
 use Rattle.step.specs.Runs.{records_of, stepped_in, joined, IsRunOver}

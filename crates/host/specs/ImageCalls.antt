@@ -2,10 +2,10 @@
 use Rattle.std.specs.Prelude.{ℕ, zero, suc, ◌*◌, ◌≡◌, cond, List, [], ◌∷◌, ◌++◌, eqb, length, drop}
 use Rattle.rules.specs.Codes.{number_of}
 use Rattle.rules.specs.Answers.{answer_size}
-use Rattle.rules.specs.Step.{Called, step, answer, called, after, answers}
+use Rattle.rules.specs.Step.{step, answer, called, after, answers}
 use Rattle.image.specs.Image.{image_of, state_at}
 use Rattle.saved.specs.Accepted.{accepted}
-use Rattle.step.specs.Runs.{records_of, stepped_in, joined, IsRunOver}
+use Rattle.step.specs.Runs.{records_of, stepped_in, joined}
 
 -- "a 16-byte answer buffer gets code 1 and otherwise zeros": code 1 stands in the upper three bits
 abbrev pub refused_answer : List ℕ

@@ -1,6 +1,6 @@
 -- Two bytes tell that the sequencer has nothing to do.
 use Prim.Native.Nat.{ℕ, ◌+◌, ◌*◌, ◌/◌, ◌%◌, ◌^◌}
-use mathlib.Core.Path.{◌≡◌, refl, ap, sym, ◌∙◌}
+use mathlib.Core.Path.{◌≡◌, refl, ap, sym}
 use mathlib.Core.Bool.{Bool, true, false, not, ◌&&◌}
 use mathlib.Core.List.{List}
 use native.Mathlib.Omega.{arith}
@@ -9,7 +9,6 @@ use lib.Pow.{mod-pow-add}
 use lib.ListN.{get_or}
 use borrow.Author.Tests.{eqb-true}
 use Rattle.rules.specs.Numbers.{bit}
-use Rattle.rules.specs.State.{State}
 use Rattle.rules.proofs.Logic.{left_true, right_true}
 use Rattle.rules.proofs.StayIdle.{Dormant}
 use Rattle.image.specs.Image.{state_at, phase_of}

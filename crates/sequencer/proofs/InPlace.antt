@@ -4,7 +4,7 @@ use mathlib.Core.Path.{◌≡◌, refl, ap, sym, subst, ◌∙◌}
 use mathlib.Core.Bool.{Bool, true, false, cond}
 use mathlib.Core.List.{List}
 use lib.ListN.{get_or, set}
-use Rattle.rules.specs.Registers.{scsiseq_of, scsiseq_byte, scsisig_of}
+use Rattle.rules.specs.Registers.{scsiseq_byte}
 use Rattle.rules.specs.Changed.{with_sequencer}
 use Rattle.rules.specs.State.{State}
 use Rattle.rules.specs.StepA.{with_atn}

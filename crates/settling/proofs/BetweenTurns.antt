@@ -1,14 +1,14 @@
 -- What holds between the turns of settling, of the array and of what is told.
 use Prim.Native.Nat.{ℕ, suc, ◌+◌, ◌<◌, ◌≤◌}
 use mathlib.Core.Path.{◌≡◌, refl, sym, ap, ◌∙◌, subst}
-use mathlib.Core.Bool.{Bool, true, false, cond}
+use mathlib.Core.Bool.{true, false, cond}
 use mathlib.Core.List.{List, [], ◌++◌}
 use native.Mathlib.Omega.{arith}
 use native.Mathlib.Nat.{le_refl, zero-add}
-use lib.ListN.{length, take}
+use lib.ListN.{take}
 use Rattle.rules.specs.State.{State, Transfer}
 use Rattle.rules.specs.Ranges.{TransferFits, TransferBytes}
-use Rattle.rules.specs.StepC.{Settling, can_move, move, can_handshake, handshake, turn, settle, turns}
+use Rattle.rules.specs.StepC.{Settling, can_move, can_handshake, handshake, turn, settle}
 use Rattle.rules.specs.declared.chip.Conditions.{Conditions}
 use Rattle.rules.proofs.Ranges.{SettlingBytes, fits_settle, bytes_settle}
 use Rattle.rules.proofs.Rest.{measure, move_lowers, handshake_lowers, turn_moves, turn_handshakes}
@@ -22,7 +22,6 @@ use Rattle.settling.proofs.Runs.{run_none, run_keeps, run_ends}
 use Rattle.settling.proofs.Underway.{Underway, reports, begins, move_under, handshake_under, room_for_ack, at_end}
 use Rattle.rules.specs.Changed.{with_transfer}
 use Rattle.image.specs.Image.{image_of, state_at, IsImage}
-use Rattle.settling.specs.declared.Told.{Told}
 use Rattle.settling.specs.Steps.{Moves, sent_with, shaken_of}
 use Rattle.settling.specs.Settles.{Settles, end_of}
 use Rattle.settling.proofs.ReadBackOfTransfer.{kept}

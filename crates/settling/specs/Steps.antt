@@ -1,5 +1,5 @@
 -- What the parts of settling leave of an array, and what they hand back.
-use Rattle.std.specs.Prelude.{ℕ, ◌≡◌, Bool, cond, List, ◌++◌, take, get_or}
+use Rattle.std.specs.Prelude.{ℕ, ◌≡◌, cond, List, ◌++◌, take}
 use Rattle.rules.specs.State.{Transfer}
 use Rattle.rules.specs.StepC.{stored_by}
 use Rattle.rules.specs.declared.chip.Conditions.{Conditions}

@@ -1,9 +1,8 @@
 -- The call with a lent buffer: sixteen bytes, or any other number.
-use mathlib.Core.Path.{◌≡◌, ap, sym, ◌∙◌}
+use mathlib.Core.Path.{◌≡◌, ap, ◌∙◌}
 use mathlib.Core.List.{List, ◌++◌, append-nil}
 use Prim.Native.Nat.{ℕ, ◌+◌, ◌≤◌}
 use native.Mathlib.Omega.{arith}
-use lib.Dec.{eqb}
 use lib.ListN.{length, take, drop, drop_of_length-le}
 use borrow.Author.Tests.{eq-eqb, ne_eqb}
 use Rattle.rules.specs.State.{State}
@@ -12,10 +11,9 @@ use Rattle.rules.specs.Ranges.{InRange, InBytes, Tidy}
 use Rattle.rules.specs.Answers.{Stepped, answer_of, answer_bytes}
 use Rattle.rules.specs.Step.{called, step, answer}
 use Rattle.rules.specs.declared.chip.Chip.{Chip}
-use Rattle.rules.specs.declared.codes.Code.{Code}
 use Rattle.rules.specs.declared.codes.Code.TheVariants.{Malformed}
 use Rattle.rules.proofs.Ranges.{step_in_range, step_bytes}
-use Rattle.image.specs.Image.{image_of, state_at, IsImage}
+use Rattle.image.specs.Image.{state_at, IsImage}
 use Rattle.image.proofs.ReadBack.{read_back}
 use Rattle.chips.specs.HeadRuns.{Stored}
 use Rattle.effects.proofs.ImageOnward.{image_is, state_is}

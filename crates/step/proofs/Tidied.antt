@@ -1,10 +1,9 @@
 -- Whatever its numbers, a chip value whose arrays have their sizes stands for a state in range.
 use mathlib.Core.Path.{◌≡◌}
-use Prim.Native.Nat.{ℕ, min}
 use native.Mathlib.Omega.{arith}
 use lib.ListN.{length, length-take}
 use Rattle.rules.specs.Chips.{path_view, registers_view, stack_view, sequencer_view, view}
-use Rattle.rules.specs.Ranges.{TransferFits, RegistersFit, StackFits, InRange}
+use Rattle.rules.specs.Ranges.{TransferFits, StackFits, InRange}
 use Rattle.rules.specs.declared.chip.DataPath.{DataPath}
 use Rattle.rules.specs.declared.chip.Stack.{Stack}
 use Rattle.rules.specs.declared.chip.Chip.{Chip}

@@ -1,13 +1,13 @@
 -- A block on an image: what settling leaves of it, and D.
-use mathlib.Core.Path.{◌≡◌, refl, ap, sym, subst, ◌∙◌}
-use mathlib.Core.List.{List, [], ◌++◌}
+use mathlib.Core.Path.{◌≡◌, refl, ap, subst, ◌∙◌}
+use mathlib.Core.List.{List, ◌++◌}
 use Prim.Native.Nat.{ℕ, ◌+◌, ◌≤◌}
 use native.Mathlib.Omega.{arith}
 use lib.ListN.{length, take, drop, length-append, length-take}
-use Rattle.rules.specs.State.{State, Transfer}
-use Rattle.rules.specs.Changed.{with_transfer, with_status, with_host, transfer_with_host}
+use Rattle.rules.specs.State.{State}
+use Rattle.rules.specs.Changed.{with_transfer, with_status, with_host}
 use Rattle.rules.specs.Seen.{ack_driven, ack_seen}
-use Rattle.rules.specs.StepC.{Settling, conditions, settle, turns}
+use Rattle.rules.specs.StepC.{Settling, conditions, turns}
 use Rattle.rules.specs.StepD.{status_d}
 use Rattle.rules.specs.Ranges.{Bytes, InRange, InBytes, TransferFits, TransferBytes}
 use Rattle.rules.specs.declared.chip.Conditions.{Conditions}

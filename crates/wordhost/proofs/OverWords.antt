@@ -13,7 +13,7 @@ use Rattle.image.specs.Layout.{image_size}
 use Rattle.saved.specs.Accepted.{accepted}
 use Rattle.saved.proofs.Acceptance.{accepted_acceptable}
 use Rattle.saved.proofs.Lent.{length_refused}
-use Rattle.words.specs.Words.{strung, word_writes, word_reads}
+use Rattle.words.specs.Words.{word_writes, word_reads}
 use Rattle.words.specs.Calls.{Wrote, Fetched, readable, writable, wrote_of, fetched_of, not_written, not_fetched, written_words, fetched_words}
 use Rattle.strings.specs.Passed.{IsWritten, IsFetched}
 use Rattle.strings.specs.declared.Passed.{Passed}

@@ -1,13 +1,12 @@
 -- R-1: what a write to each register leaves of the sequencer, by computing, and its ticks.
 use Prim.Native.Nat.{ℕ, ◌<◌}
-use mathlib.Core.Path.{◌≡◌, refl}
+use mathlib.Core.Path.{◌≡◌}
 use mathlib.Core.Bool.{Bool, true, false, cond}
 use native.Mathlib.Omega.{arith}
 use Rattle.rules.specs.Counter.{counter_size}
 use Rattle.rules.specs.Events.{writes, value_of}
 use Rattle.rules.specs.State.{State}
 use Rattle.rules.specs.StepA.{clears, clears_latch, registers_a, gives_up, selection_a, noted_a, selection_latches_a, sequencer_a}
-use Rattle.rules.specs.declared.map.Register.{Register}
 use Rattle.rules.specs.declared.map.Register.TheVariants.{SCSISEQ}
 use Rattle.rules.specs.declared.records.Event.{Event}
 use Rattle.writes.specs.SequencerWritten.{sequencer_written, gives_up_by, gave_up}

@@ -1,5 +1,4 @@
 use mathlib.Core.Path.{◌≡◌, sym, subst}
-use borrow.Author.Rules.{rules}
 use Rattle.rules.specs.Chips.{view}
 use Rattle.rules.specs.Ranges.{InBytes}
 use Rattle.image.specs.Image.{image_of, IsImage}

@@ -1,4 +1,3 @@
-use borrow.Author.Rules.{rules}
 use mathlib.Core.Path.{ap, sym, subst, ◌∙◌}
 use Rattle.edges.specs.declared.edges.Edges.{Edges}
 use Rattle.image.specs.Image.{image_of, state_at}

@@ -1,4 +1,3 @@
-use borrow.Author.Rules.{rules}
 use Rattle.edges.proofs.AppliedIn.{applied_in}
 use Rattle.edges.proofs.applied_in.Goals as goal
 

@@ -1,4 +1,3 @@
-use borrow.Author.Rules.{rules}
 use mathlib.Core.Path.{sym, ◌∙◌}
 use Rattle.edges.proofs.InTurn.{quiet_is, no_error, not_free, quieted, phased_packed, beyond_is, all_parts}
 use Rattle.edges.proofs.edges_in.Goals as goal

@@ -1,4 +1,3 @@
-use borrow.Author.Rules.{rules}
 use mathlib.Core.Path.{ap, ◌∙◌}
 use Rattle.effects.specs.Acting.{refused_as}
 use Rattle.effects.proofs.refused.Goals as goal

@@ -1,6 +1,5 @@
-use mathlib.Core.Path.{◌≡◌, refl, ap, sym, ◌∙◌}
+use mathlib.Core.Path.{refl, ap, sym, ◌∙◌}
 use mathlib.Core.Bool.{not}
-use borrow.Author.Rules.{rules}
 use Rattle.saved.proofs.Acceptance.{accepted_acceptable, acceptable_length}
 use Rattle.saved.proofs.Lent.{length_refused, copy_refused, copy_accepted}
 use Rattle.host.proofs.OverImages.{run_refused, run_done, run_image}

@@ -1,6 +1,5 @@
 use mathlib.Core.Path.{ap}
 use mathlib.Core.Bool.{not}
-use borrow.Author.Rules.{rules}
 use Rattle.saved.proofs.Acceptance.{counts_fitting}
 use Rattle.saved.proofs.Packing.{tested_image, holds, refused_at, last_decides}
 use Rattle.saved.proofs.is_accepted.Goals as goal

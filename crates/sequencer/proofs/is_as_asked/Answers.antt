@@ -1,4 +1,3 @@
-use borrow.Author.Rules.{rules}
 use Rattle.sequencer.proofs.is_as_asked.Goals as goal
 
 pub returns-then-asks : goal.returns-then-asks

@@ -1,6 +1,5 @@
 use mathlib.Core.Path.{sym, ◌∙◌}
 use mathlib.Core.Bool.{not, ◌&&◌}
-use borrow.Author.Rules.{rules}
 use Rattle.rules.specs.Seen.{rst_seen}
 use Rattle.image.specs.Image.{state_at}
 use Rattle.sequencer.proofs.is_still.Goals as goal

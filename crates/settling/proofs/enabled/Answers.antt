@@ -1,6 +1,5 @@
 use mathlib.Core.Path.{◌≡◌, refl, sym, ◌∙◌}
 use mathlib.Core.Bool.{Bool, true, false, ◌&&◌, cond}
-use borrow.Author.Rules.{rules}
 use Rattle.rules.specs.State.{State}
 use Rattle.rules.specs.Seen.{matched, path}
 use Rattle.rules.specs.StepC.{conditions}

@@ -1,4 +1,3 @@
-use borrow.Author.Rules.{rules}
 use Rattle.settling.proofs.Exits.{moves_settle}
 use Rattle.settling.proofs.moving.Goals as goal
 

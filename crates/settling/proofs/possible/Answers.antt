@@ -1,7 +1,6 @@
 use mathlib.Core.Path.{◌≡◌, refl, sym, ◌∙◌}
 use mathlib.Core.Bool.{Bool, true, false, not, cond}
 use lib.Dec.{ltb}
-use borrow.Author.Rules.{rules}
 use Rattle.rules.specs.State.{State}
 use Rattle.rules.specs.Seen.{req_seen, synchronous}
 use Rattle.image.specs.Image.{state_at}

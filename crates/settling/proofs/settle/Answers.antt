@@ -1,6 +1,4 @@
 use mathlib.Core.Path.{sym, ◌∙◌}
-use borrow.Author.Rules.{rules}
-use borrow.Author.Tests.{not-true}
 use Rattle.image.specs.Image.{state_at}
 use Rattle.settling.proofs.Exits.{none_settles, begun, few, shakes_settle}
 use Rattle.settling.proofs.settle.Goals as goal

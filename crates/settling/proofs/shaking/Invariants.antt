@@ -1,12 +1,7 @@
-use Prim.Native.Nat.{ℕ, suc, ◌+◌, ◌-◌, ◌<◌, ◌≤◌}
-use mathlib.Core.Path.{◌≡◌, sym, subst, ◌∙◌}
-use mathlib.Core.Bool.{true}
-use native.Mathlib.Omega.{arith}
-use borrow.Author.Rules.{rules}
-use Rattle.rules.specs.StepC.{can_handshake}
+use Prim.Native.Nat.{◌-◌, ◌≤◌}
 use Rattle.rules.proofs.Rest.{measure}
 use Rattle.image.specs.Image.{state_at}
-use Rattle.settling.proofs.BetweenTurns.{Between, Going, started, moved_on, shaken_on, moves_fit, room, settles}
+use Rattle.settling.proofs.BetweenTurns.{Going}
 use Rattle.settling.proofs.shaking.Given as goal
 
 -- what goes on from the loop's start, beside the moves made before it

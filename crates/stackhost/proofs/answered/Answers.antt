@@ -2,7 +2,6 @@
 use Prim.Native.Nat.{ℕ}
 use mathlib.Core.Path.{◌≡◌, ap, ◌∙◌}
 use mathlib.Core.List.{[], ◌∷◌}
-use borrow.Author.Rules.{rules}
 use lib.ListN.{get_or}
 use Rattle.stack.specs.Accesses.{stack_accessed}
 use Rattle.stack.specs.declared.lent.Accessed.{Accessed}

@@ -1,5 +1,4 @@
 use mathlib.Core.Path.{ap, ◌∙◌}
-use borrow.Author.Rules.{rules}
 use Rattle.stack.specs.Box.{doing}
 use Rattle.rules.specs.declared.records.Decoded.{Decoded}
 use Rattle.stackhost.specs.StackCalls.{found_in}

@@ -1,4 +1,3 @@
-use borrow.Author.Rules.{rules}
 use Rattle.step.proofs.Called.{entry_tidy, entered, other_size}
 use Rattle.step.proofs.step.Goals as goal
 

@@ -1,4 +1,3 @@
-use borrow.Author.Rules.{rules}
 use Rattle.step.proofs.Called.{image_stepped, sixteen}
 use Rattle.step.proofs.stepped_over.Goals as goal
 

@@ -1,8 +1,4 @@
-use Prim.Native.Nat.{◌-◌}
-use native.Mathlib.Omega.{arith}
-use borrow.Author.Rules.{rules}
-use Rattle.chips.proofs.Elements.{array_bytes}
-use Rattle.chips.proofs.Pasted.{Pasted, begun, again, ended}
+use Rattle.chips.proofs.Pasted.{Pasted}
 use Rattle.image.specs.Layout.{host_bytes_place}
 use Rattle.chips.proofs.put.put_host.Given as goal
 

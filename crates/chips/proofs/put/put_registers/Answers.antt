@@ -1,4 +1,3 @@
-use borrow.Author.Rules.{rules}
 use Rattle.chips.proofs.put.put_registers.Goals as goal
 
 -- the type of the registers says that each is a byte

@@ -1,6 +1,4 @@
-use Prim.Native.Nat.{◌-◌}
-use native.Mathlib.Omega.{arith}
-use Rattle.chips.proofs.Window.{Taken, begun, again, ended}
+use Rattle.chips.proofs.Window.{Taken}
 use Rattle.image.specs.Layout.{host_bytes_place}
 use Rattle.chips.proofs.taken.host_bytes.Given as goal
 

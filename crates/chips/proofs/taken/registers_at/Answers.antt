@@ -1,5 +1,4 @@
 use lib.ListN.{get_or}
-use borrow.Author.Rules.{rules}
 use Rattle.image.specs.Layout.{brstcntrl_place, scsidat_place}
 use Rattle.chips.proofs.taken.registers_at.Goals as goal
 

@@ -1,4 +1,3 @@
-use borrow.Author.Rules.{rules}
 use lib.ListN.{get_or}
 use Rattle.image.specs.Layout.{pointer_place}
 use Rattle.chips.proofs.taken.stack_at.Goals as goal

@@ -1,6 +1,5 @@
-use Prim.Native.Nat.{◌-◌}
 use native.Mathlib.Omega.{arith}
-use Rattle.chips.proofs.Window.{Taken, begun, again, ended}
+use Rattle.chips.proofs.Window.{begun, again, ended}
 use Rattle.image.specs.Layout.{stack_bytes_place}
 use Rattle.chips.proofs.taken.stack_bytes.Goals as goal
 

@@ -5,7 +5,6 @@ use Prim.Native.Nat.{ℕ}
 use native.Mathlib.Omega.{arith}
 use lib.ListN.{drop, replicate, length-drop}
 use lib.Seq.{paste}
-use borrow.Author.Rules.{rules}
 use Rattle.datapath.specs.Laid.{lowered}
 use Rattle.datapath.proofs.Places.{pasted_long}
 use Rattle.datapath.proofs.copies.moved_down.Goals as goal

@@ -1,4 +1,3 @@
-use borrow.Author.Rules.{rules}
 use Rattle.datapath.proofs.Heads.{on}
 use Rattle.datapath.proofs.counts.acknowledged.Goals as goal
 

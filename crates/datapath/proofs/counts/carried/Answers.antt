@@ -1,5 +1,4 @@
 use mathlib.Core.Path.{ap, ◌∙◌}
-use borrow.Author.Rules.{rules}
 use Rattle.rules.specs.Counter.{counter_step}
 use Rattle.rules.specs.Changed.{with_counter}
 use Rattle.rules.specs.declared.counts.CounterStep.{CounterStep}

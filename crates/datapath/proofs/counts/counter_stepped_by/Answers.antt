@@ -1,4 +1,3 @@
-use borrow.Author.Rules.{rules}
 use Rattle.datapath.proofs.counts.counter_stepped_by.Goals as goal
 
 pub returns-in-Up : goal.returns-in-Up

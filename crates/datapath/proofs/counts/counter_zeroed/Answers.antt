@@ -1,4 +1,3 @@
-use borrow.Author.Rules.{rules}
 use Rattle.datapath.proofs.Heads.{zeroed}
 use Rattle.datapath.proofs.counts.counter_zeroed.Goals as goal
 

@@ -1,4 +1,3 @@
-use borrow.Author.Rules.{rules}
 use Rattle.datapath.proofs.Heads.{high}
 use Rattle.datapath.proofs.counts.high_written.Goals as goal
 

@@ -1,4 +1,3 @@
-use borrow.Author.Rules.{rules}
 use Rattle.datapath.proofs.Heads.{low}
 use Rattle.datapath.proofs.counts.low_written.Goals as goal
 

@@ -1,4 +1,3 @@
-use borrow.Author.Rules.{rules}
 use Rattle.datapath.proofs.Heads.{middle}
 use Rattle.datapath.proofs.counts.middle_written.Goals as goal
 

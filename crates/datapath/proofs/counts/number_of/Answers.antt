@@ -1,5 +1,4 @@
 use mathlib.Core.Path.{◌∙◌}
-use borrow.Author.Rules.{rules}
 use Rattle.datapath.proofs.Fronts.{placed_at}
 use Rattle.datapath.proofs.Heads.{number}
 use Rattle.datapath.proofs.counts.number_of.Goals as goal

@@ -1,4 +1,3 @@
-use borrow.Author.Rules.{rules}
 use Rattle.datapath.proofs.Heads.{number_laid}
 use Rattle.datapath.proofs.counts.number_stored.Goals as goal
 

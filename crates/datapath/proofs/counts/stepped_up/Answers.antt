@@ -1,4 +1,3 @@
-use borrow.Author.Rules.{rules}
 use Rattle.datapath.proofs.Fronts.{placed_at}
 use Rattle.datapath.proofs.Heads.{low_up}
 use Rattle.datapath.proofs.counts.stepped_up.Goals as goal

@@ -1,5 +1,4 @@
 use native.Mathlib.Omega.{arith}
-use borrow.Author.Rules.{rules}
 use Rattle.datapath.proofs.Fronts.{placed_at}
 use Rattle.datapath.proofs.Heads.{low_up_by}
 use Rattle.datapath.proofs.counts.stepped_up_by.Goals as goal

@@ -2,7 +2,6 @@ use mathlib.Core.Path.{ap, ◌∙◌}
 use mathlib.Core.List.{List}
 use Prim.Native.Nat.{ℕ}
 use native.Mathlib.Omega.{arith}
-use borrow.Author.Rules.{rules}
 use Rattle.image.specs.Image.{image_of, state_at}
 use Rattle.rules.specs.Changed.{with_host}
 use Rattle.datapath.proofs.Fronts.{none_left, placed_at}

@@ -1,5 +1,4 @@
 use mathlib.Core.Path.{◌∙◌}
-use borrow.Author.Rules.{rules}
 use Rattle.image.specs.Image.{state_at}
 use Rattle.datapath.proofs.Fronts.{placed_at}
 use Rattle.datapath.proofs.Ends.{host_one_more}

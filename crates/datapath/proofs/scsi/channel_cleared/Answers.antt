@@ -2,7 +2,6 @@ use Prim.Native.Nat.{ℕ}
 use mathlib.Core.Path.{ap, ◌∙◌}
 use mathlib.Core.List.{List}
 use native.Mathlib.Omega.{arith}
-use borrow.Author.Rules.{rules}
 use Rattle.image.specs.Image.{image_of, state_at}
 use Rattle.rules.specs.Changed.{with_scsi}
 use Rattle.datapath.proofs.Fronts.{placed_at}

@@ -1,5 +1,4 @@
 use mathlib.Core.Path.{◌∙◌}
-use borrow.Author.Rules.{rules}
 use lib.ListN.{get_or}
 use Rattle.image.specs.Image.{state_at}
 use Rattle.image.specs.Layout.{scsi_count_place}

@@ -1,4 +1,3 @@
-use borrow.Author.Rules.{rules}
 use Rattle.edges.proofs.after.byte_seen.Goals as goal
 
 pub returns-then-stored : goal.returns-then-stored

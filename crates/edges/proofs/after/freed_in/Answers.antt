@@ -1,6 +1,5 @@
 use mathlib.Core.Path.{ap, ◌∙◌}
 use lib.ListN.{set}
-use borrow.Author.Rules.{rules}
 use Rattle.rules.specs.Sequencer.{selection_freed}
 use Rattle.image.specs.Image.{sequencer_byte}
 use Rattle.image.specs.Layout.{sequencer_place}

@@ -1,6 +1,3 @@
-use borrow.Author.Rules.{rules}
-use borrow.Author.Tests.{not-true, not-false}
-use mathlib.Core.Bool.{◌||◌}
 use Rattle.edges.proofs.after.registers_in.Goals as goal
 
 pub returns-then-not-reset-bad : goal.returns-then-not-reset-bad

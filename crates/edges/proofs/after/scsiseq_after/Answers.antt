@@ -1,4 +1,3 @@
-use borrow.Author.Rules.{rules}
 use mathlib.Core.Path.{ap, ◌∙◌}
 use Rattle.rules.specs.Registers.{scsiseq_byte}
 use Rattle.edges.specs.Components.{scsiseq_b}

@@ -1,4 +1,3 @@
-use borrow.Author.Rules.{rules}
 use mathlib.Core.Path.{ap, ◌∙◌}
 use Rattle.image.specs.Image.{scsisig_byte}
 use Rattle.edges.specs.Components.{scsisig_b}

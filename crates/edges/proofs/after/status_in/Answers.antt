@@ -1,4 +1,3 @@
-use borrow.Author.Rules.{rules}
 use Rattle.edges.proofs.after.status_in.Goals as goal
 
 pub returns : goal.returns

@@ -1,4 +1,3 @@
-use borrow.Author.Rules.{rules}
 use Rattle.image.specs.Image.{state_at}
 use Rattle.edges.proofs.Laws.{busy_reset, busy_unreset}
 use Rattle.edges.proofs.found.busy.Goals as goal

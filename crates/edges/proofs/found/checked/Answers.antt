@@ -1,6 +1,5 @@
 use mathlib.Core.Path.{sym, ◌∙◌}
 use mathlib.Core.Bool.{and-false}
-use borrow.Author.Rules.{rules}
 use Rattle.edges.proofs.Laws.{first_left}
 use Rattle.edges.proofs.found.checked.Goals as goal
 

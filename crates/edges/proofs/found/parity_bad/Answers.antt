@@ -1,4 +1,3 @@
-use borrow.Author.Rules.{rules}
 use Rattle.edges.proofs.found.parity_bad.Goals as goal
 
 pub returns-then-rises : goal.returns-then-rises

@@ -1,4 +1,3 @@
-use borrow.Author.Rules.{rules}
 use Rattle.rules.specs.StepB.{quiet_after}
 use Rattle.image.specs.Image.{state_at}
 use Rattle.edges.proofs.found.quiet_after.Goals as goal

@@ -1,6 +1,5 @@
 use mathlib.Core.Path.{sym, ◌∙◌}
 use mathlib.Core.Bool.{◌&&◌}
-use borrow.Author.Rules.{rules}
 use Rattle.rules.specs.Seen.{matched, path, synchronous}
 use Rattle.image.specs.Image.{state_at}
 use Rattle.edges.proofs.Laws.{first_left, second_fails, third_fails}

@@ -1,6 +1,5 @@
 use mathlib.Core.Path.{ap, sym, ◌∙◌}
 use mathlib.Core.Bool.{true, ◌&&◌}
-use borrow.Author.Rules.{rules}
 use Rattle.rules.specs.State.{State}
 use Rattle.image.specs.Image.{image_of, state_at}
 use Rattle.edges.specs.Tests.{inbound_bad}

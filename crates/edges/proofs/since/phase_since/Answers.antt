@@ -1,5 +1,4 @@
 use mathlib.Core.Path.{ap, ◌∙◌}
-use borrow.Author.Rules.{rules}
 use Rattle.image.specs.Image.{image_of, state_at}
 use Rattle.edges.proofs.InOrder.{phase_as_seen}
 use Rattle.edges.proofs.since.phase_since.Goals as goal

@@ -1,4 +1,3 @@
-use borrow.Author.Rules.{rules}
 use mathlib.Core.Path.{sym, ◌∙◌}
 use Rattle.edges.proofs.Still.{seen_quieted, seen_unchanged}
 use Rattle.edges.proofs.since.still_in.Goals as goal

@@ -1,5 +1,4 @@
 use mathlib.Core.Bool.{false}
-use borrow.Author.Rules.{rules}
 use Rattle.rules.specs.declared.records.Event.TheVariants.{Write}
 use Rattle.effects.proofs.StatesOfA.{start, flagged, acts}
 use Rattle.effects.proofs.Effects.{leaves, clrserr}

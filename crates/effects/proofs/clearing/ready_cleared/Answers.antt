@@ -1,6 +1,5 @@
 use mathlib.Core.Path.{refl}
 use mathlib.Core.Bool.{false}
-use borrow.Author.Rules.{rules}
 use Rattle.rules.specs.Map.{table, written_at}
 use Rattle.rules.specs.declared.records.Event.TheVariants.{Write, WordRead}
 use Rattle.effects.proofs.StatesOfA.{start, there, sequenced, flagged, unlatched, acts}

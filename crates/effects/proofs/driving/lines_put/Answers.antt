@@ -1,5 +1,5 @@
 use borrow.Author.Rules.{rules}
-use mathlib.Core.Path.{◌≡◌, ◌∙◌}
+use mathlib.Core.Path.{◌∙◌}
 use lib.ListN.{set}
 use Rattle.rules.specs.Records.{lines_of, payload_of}
 use Rattle.rules.specs.Changed.{with_lines}

@@ -1,10 +1,8 @@
 use mathlib.Core.Path.{refl, ap, ◌∙◌}
 use native.Mathlib.Omega.{arith}
-use borrow.Author.Rules.{rules}
 use lib.ListN.{get_or}
 use borrow.Author.Tests.{lt-ltb, le-ltb}
 use Rattle.rules.specs.declared.codes.Code.TheVariants.{Shut, NoBytes}
-use Rattle.rules.specs.declared.records.Event.TheVariants.{Read}
 use Rattle.rules.proofs.Ranges.{bytes_at}
 use Rattle.image.specs.Image.{image_of, state_at}
 use Rattle.image.proofs.AtPlaces.{at_first}

@@ -1,5 +1,4 @@
 use mathlib.Core.Path.{refl}
-use borrow.Author.Rules.{rules}
 use Rattle.image.specs.Image.{state_at}
 use Rattle.effects.proofs.porting.shut_to.Goals as goal
 

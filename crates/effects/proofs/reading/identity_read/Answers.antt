@@ -1,6 +1,5 @@
 use mathlib.Core.Path.{refl, ap, ◌∙◌}
 use native.Mathlib.Omega.{arith}
-use borrow.Author.Rules.{rules}
 use Rattle.rules.specs.Map.{table, read_at}
 use Rattle.rules.specs.declared.map.Register.TheVariants.{ID}
 use Rattle.image.specs.Image.{image_of, state_at}

@@ -1,6 +1,5 @@
 use Prim.Native.Nat.{ℕ}
 use mathlib.Core.Path.{ap, ◌∙◌}
-use borrow.Author.Rules.{rules}
 use Rattle.effects.specs.Acting.{done_with}
 use Rattle.effects.proofs.reading.plain_read.Goals as goal
 

@@ -1,5 +1,4 @@
 use mathlib.Core.Path.{ap, ◌∙◌}
-use borrow.Author.Rules.{rules}
 use Rattle.rules.specs.Map.{offset_of}
 use Rattle.image.specs.Image.{image_of, state_at}
 use Rattle.effects.proofs.ReadFound.{found_below, not_latch, not_port, not_stack, not_identity}

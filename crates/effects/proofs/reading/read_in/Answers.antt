@@ -1,6 +1,5 @@
 use Prim.Native.Nat.{ℕ}
 use mathlib.Core.Path.{refl, sym, subst, ◌∙◌}
-use borrow.Author.Rules.{rules}
 use Rattle.rules.specs.Codes.{mapped_code}
 use Rattle.rules.specs.declared.map.Mapped.TheVariants.{Missing}
 use Rattle.rules.specs.declared.records.Event.TheVariants.{Read}

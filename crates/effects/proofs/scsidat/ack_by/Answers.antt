@@ -1,4 +1,3 @@
-use borrow.Author.Rules.{rules}
 use Rattle.effects.proofs.scsidat.ack_by.Goals as goal
 
 pub returns-then-acked : goal.returns-then-acked

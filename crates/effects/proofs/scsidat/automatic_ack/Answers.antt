@@ -1,4 +1,3 @@
-use borrow.Author.Rules.{rules}
 use Rattle.effects.proofs.scsidat.automatic_ack.Goals as goal
 
 pub returns-then-accessed : goal.returns-then-accessed

@@ -1,5 +1,4 @@
 use mathlib.Core.Path.{refl}
-use borrow.Author.Rules.{rules}
 use Rattle.rules.specs.Map.{table, written_at}
 use Rattle.rules.specs.declared.records.Event.TheVariants.{Write, WordRead}
 use Rattle.effects.proofs.ImageOnward.{acked_is}

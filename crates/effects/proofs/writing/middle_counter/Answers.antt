@@ -1,5 +1,4 @@
 use mathlib.Core.Bool.{false}
-use borrow.Author.Rules.{rules}
 use Rattle.rules.specs.declared.records.Event.TheVariants.{WordRead}
 use Rattle.effects.proofs.StatesOfA.{start, there, carried, flagged, acts}
 use Rattle.effects.proofs.Effects.{leaves, stcnt1}

@@ -1,6 +1,5 @@
 use mathlib.Core.Path.{refl}
 use mathlib.Core.Bool.{false}
-use borrow.Author.Rules.{rules}
 use Rattle.rules.specs.declared.records.Event.TheVariants.{WordRead}
 use Rattle.effects.proofs.StatesOfA.{start, there, stored, flagged, acts}
 use Rattle.effects.proofs.Effects.{leaves}

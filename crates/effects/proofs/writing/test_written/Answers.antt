@@ -1,6 +1,5 @@
 use mathlib.Core.Path.{refl}
 use mathlib.Core.Bool.{false}
-use borrow.Author.Rules.{rules}
 use Rattle.rules.specs.Codes.{refused_value}
 use Rattle.rules.specs.Events.{ticks_of}
 use Rattle.rules.specs.declared.codes.Code.TheVariants.{TestValue}

@@ -1,4 +1,3 @@
-use borrow.Author.Rules.{rules}
 use Rattle.effects.proofs.Effects.{scsiseq, sxfrctl1, scsisigo, scsirate, scsiid, simode0, simode1, brstcntrl}
 use Rattle.effects.proofs.Unwritable.{never_written}
 use Rattle.effects.proofs.writing.write_found.Goals as goal

@@ -1,5 +1,4 @@
 use mathlib.Core.Path.{refl, sym, ◌∙◌}
-use borrow.Author.Rules.{rules}
 use Rattle.rules.specs.Events.{ticks_of}
 use Rattle.rules.specs.Codes.{mapped_code}
 use Rattle.rules.specs.declared.map.Mapped.TheVariants.{Missing}

@@ -1,4 +1,3 @@
-use borrow.Author.Rules.{rules}
 use Rattle.rules.specs.Registers.{simode0_of, simode1_of}
 use Rattle.image.specs.Image.{status_of}
 use Rattle.event.proofs.ThroughD.{image_raised, image_fallen, closed}

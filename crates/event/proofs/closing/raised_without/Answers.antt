@@ -1,5 +1,3 @@
-use borrow.Author.Rules.{rules}
-use borrow.Author.Tests.{not-false}
 use mathlib.Core.Path.{ap, sym, ◌∙◌}
 use Rattle.image.specs.Image.{image_of, state_at}
 use Rattle.event.proofs.ThroughD.{unraised}

@@ -1,9 +1,6 @@
-use borrow.Author.Rules.{rules}
 use native.Mathlib.Omega.{arith}
-use mathlib.Core.Path.{◌≡◌, ap, subst, ◌∙◌}
-use Rattle.rules.specs.declared.records.Event.{Event}
+use mathlib.Core.Path.{ap, subst, ◌∙◌}
 use Rattle.rules.specs.declared.records.Event.TheVariants.{Drive}
-use Rattle.rules.specs.declared.records.Decoded.{Decoded}
 use Rattle.rules.specs.declared.records.Decoded.TheVariants.{Well}
 use Rattle.rules.specs.declared.records.Lines.{Lines}
 use Rattle.image.specs.Image.{state_at}

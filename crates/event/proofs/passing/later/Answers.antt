@@ -1,5 +1,4 @@
 use borrow.Author.Tests.{lt-ltb, le-ltb}
-use borrow.Author.Rules.{rules}
 use Rattle.event.proofs.passing.later.Goals as goal
 
 pub returns-then-since-lt72 : goal.returns-then-since-lt72

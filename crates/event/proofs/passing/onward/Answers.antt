@@ -1,13 +1,11 @@
-use Prim.Native.Nat.{ℕ, suc, ◌+◌, ◌-◌, ◌<◌, ◌≤◌}
-use mathlib.Core.Bool.{true, false, false≢true, cond}
-use mathlib.Core.Path.{◌≡◌, refl, ap, sym, subst, ◌∙◌}
+use Prim.Native.Nat.{◌+◌, ◌-◌, ◌<◌, ◌≤◌}
+use mathlib.Core.Bool.{false≢true}
+use mathlib.Core.Path.{refl, sym}
 use native.Mathlib.Omega.{arith}
-use lib.Dec.{ltb}
 use Rattle.image.specs.Image.{state_at}
-use Rattle.rules.specs.Ticks.{distance, unreached}
+use Rattle.rules.specs.Ticks.{distance}
 use Rattle.rules.proofs.TickByTick.{distance_bounded}
 use Rattle.event.proofs.Ticking.{counted_image, counted_all, counted_some, counted_marked, not_late}
-use borrow.Author.Rules.{rules}
 use Rattle.event.proofs.passing.onward.Goals as goal
 
 pub advanced_in-requires : goal.advanced_in-requires

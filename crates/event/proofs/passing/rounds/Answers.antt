@@ -1,12 +1,9 @@
-use Prim.Native.Nat.{ℕ, ◌%◌, ◌<◌, ◌≤◌}
-use mathlib.Core.Path.{◌≡◌, refl, ap, sym, ◌∙◌}
+use Prim.Native.Nat.{◌%◌, ◌<◌}
+use mathlib.Core.Path.{refl, sym, ◌∙◌}
 use native.Mathlib.Nat.{mod-lt}
 use native.Mathlib.Omega.{arith}
-use Rattle.image.specs.Image.{state_at}
 use Rattle.settling.proofs.ReadBackOfTransfer.{long}
 use Rattle.event.proofs.Ticking.{led_nowhere, led_round}
-use borrow.Author.Tests.{not-false}
-use borrow.Author.Rules.{rules}
 use Rattle.event.proofs.passing.rounds.Goals as goal
 
 pub returns-then-left-lt144 : goal.returns-then-left-lt144

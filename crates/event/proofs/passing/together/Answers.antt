@@ -1,9 +1,6 @@
 use Prim.Native.Nat.{◌+◌}
-use mathlib.Core.Path.{◌≡◌, refl, ap, sym, subst, ◌∙◌}
-use native.Mathlib.Omega.{arith}
-use Rattle.settling.specs.declared.Told.{Told}
+use mathlib.Core.Path.{ap}
 use Rattle.fifos.specs.declared.sent.Sent.{Sent}
-use borrow.Author.Rules.{rules}
 use Rattle.event.proofs.passing.together.Goals as goal
 
 pub returns : goal.returns

@@ -1,7 +1,6 @@
-use mathlib.Core.Path.{◌≡◌, refl, ap, sym, ◌∙◌}
+use mathlib.Core.Path.{ap, ◌∙◌}
 use Rattle.settling.specs.declared.Told.{Told}
-use Rattle.event.specs.Totals.{Sums, summed}
-use borrow.Author.Rules.{rules}
+use Rattle.event.specs.Totals.{summed}
 use Rattle.event.proofs.stepping.added.Goals as goal
 
 pub summed-requires : goal.summed-requires

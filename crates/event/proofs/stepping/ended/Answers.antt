@@ -1,4 +1,3 @@
-use borrow.Author.Rules.{rules}
 use Rattle.event.proofs.stepping.ended.Goals as goal
 
 pub returns : goal.returns

@@ -1,13 +1,10 @@
-use Prim.Native.Nat.{ℕ, zero, suc, ◌+◌, ◌-◌, ◌<◌, ◌≤◌}
-use mathlib.Core.Bool.{true, false}
-use mathlib.Core.Path.{◌≡◌, refl, ap, sym, subst, ◌∙◌}
+use mathlib.Core.Path.{refl, ap, ◌∙◌}
 use native.Mathlib.Omega.{arith}
 use lib.Dec.{eqb}
 use lib.ListN.{get_or}
 use Rattle.rules.specs.Step.{step}
 use Rattle.rules.specs.Records.{decode}
 use Rattle.rules.proofs.Ranges.{StepFits, decode_fits}
-use Rattle.rules.specs.Answers.{Stepped}
 use Rattle.rules.proofs.Reports.{step_fits}
 use Rattle.image.specs.Image.{state_at}
 use Rattle.image.specs.Layout.{simode0_place, simode1_place}
@@ -17,7 +14,6 @@ use Rattle.event.proofs.Starts as starts
 use Rattle.event.proofs.Turns as turns
 use borrow.Author.Tests.{eqb-true, not-true, not-false}
 use Rattle.rules.proofs.Logic.{left_true, right_true}
-use borrow.Author.Rules.{rules}
 use Rattle.event.proofs.stepping.outcome_of.Goals as goal
 use Rattle.event.proofs.stepping.outcome_of.Goals.{Else-a}
 

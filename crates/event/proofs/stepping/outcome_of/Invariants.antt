@@ -1,23 +1,6 @@
-use Prim.Native.Nat.{ℕ, zero, suc, ◌+◌, ◌-◌, ◌<◌, ◌≤◌}
-use mathlib.Core.Bool.{true, false}
-use mathlib.Core.Path.{◌≡◌, refl, ap, sym, subst, ◌∙◌}
-use native.Mathlib.Omega.{arith}
-use lib.Dec.{eqb}
-use lib.ListN.{get_or}
-use Rattle.rules.specs.Step.{step}
-use Rattle.rules.specs.Records.{decode}
-use Rattle.rules.proofs.Ranges.{StepFits, decode_fits}
 use Rattle.rules.specs.Answers.{Stepped}
-use Rattle.rules.proofs.Reports.{step_fits}
-use Rattle.image.specs.Image.{state_at}
-use Rattle.image.specs.Layout.{simode0_place, simode1_place}
-use Rattle.edges.specs.Since.{rst_of, req_of, mismatched_of}
-use Rattle.edges.proofs.Still.{rst_of_lem, req_of_lem, mismatched_of_lem}
 use Rattle.event.proofs.Starts as starts
 use Rattle.event.proofs.Turns as turns
-use borrow.Author.Tests.{eqb-true, not-true, not-false}
-use Rattle.rules.proofs.Logic.{left_true, right_true}
-use borrow.Author.Rules.{rules}
 use Rattle.event.proofs.stepping.outcome_of.Given as goal
 
 -- whatever the whole event is by what A left, the turn goes on towards it

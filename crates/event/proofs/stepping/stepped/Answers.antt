@@ -1,4 +1,3 @@
-use borrow.Author.Rules.{rules}
 use Rattle.event.proofs.Answered.{image_left, gives}
 use Rattle.event.proofs.stepping.stepped.Goals as goal
 

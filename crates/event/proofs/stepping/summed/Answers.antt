@@ -1,8 +1,6 @@
-use mathlib.Core.Path.{◌≡◌, refl, ap, sym, subst, ◌∙◌}
+use mathlib.Core.Path.{ap}
 use Rattle.settling.specs.declared.Told.{Told}
 use Rattle.rules.specs.declared.codes.Code.TheVariants.{Done}
-use Rattle.event.specs.declared.stepping.Outcome.{Outcome}
-use borrow.Author.Rules.{rules}
 use Rattle.event.proofs.stepping.summed.Goals as goal
 
 pub returns : goal.returns

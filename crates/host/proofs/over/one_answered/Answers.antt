@@ -1,7 +1,5 @@
-use mathlib.Core.Path.{◌≡◌, refl, ap, sym, ◌∙◌}
 use native.Mathlib.Omega.{arith}
 use Rattle.host.proofs.OverImages.{one_run, one_whole, one_malformed}
-use borrow.Author.Rules.{rules}
 use Rattle.host.proofs.over.one_answered.Goals as goal
 
 pub returns-then-bytes-eq-RECORD_SIZE : goal.returns-then-bytes-eq-RECORD_SIZE

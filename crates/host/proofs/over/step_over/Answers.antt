@@ -1,7 +1,5 @@
-use mathlib.Core.Path.{◌≡◌, refl, ap, sym, ◌∙◌}
-use native.Mathlib.Omega.{arith}
+use mathlib.Core.Path.{refl}
 use Rattle.host.proofs.OverImages.{called_short, called_one}
-use borrow.Author.Rules.{rules}
 use Rattle.host.proofs.over.step_over.Goals as goal
 
 pub returns-then-answer-ne-ANSWER_SIZE : goal.returns-then-answer-ne-ANSWER_SIZE

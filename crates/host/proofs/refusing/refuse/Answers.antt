@@ -1,6 +1,5 @@
 use mathlib.Core.Path.{refl}
 use Rattle.host.proofs.OverImages.{refused_sixteen, refused_other}
-use borrow.Author.Rules.{rules}
 use Rattle.host.proofs.refusing.refuse.Goals as goal
 
 pub returns-then-answer-eq-ANSWER_SIZE : goal.returns-then-answer-eq-ANSWER_SIZE

@@ -1,12 +1,9 @@
-use Prim.Native.Nat.{ℕ, ◌+◌, ◌-◌, ◌*◌, ◌≤◌, ◌<◌, ◌^◌}
-use mathlib.Core.Path.{◌≡◌, refl, ap, sym, ◌∙◌}
-use mathlib.Core.List.{List, ◌++◌}
-use native.Mathlib.Omega.{arith}
+use Prim.Native.Nat.{◌*◌, ◌≤◌, ◌<◌, ◌^◌}
+use mathlib.Core.Path.{◌≡◌}
+use mathlib.Core.List.{◌++◌}
 use lib.ListN.{length, drop}
 use Rattle.step.specs.Runs.{stepped_in}
 use Rattle.host.specs.ImageCalls.{refusals}
-use Rattle.host.proofs.OverImages.{refusals_more}
-use borrow.Author.Rules.{rules}
 use Rattle.host.proofs.refusing.refuse_all.Given as goal
 
 abbrev pub invariant-loop-i : goal.invariant-loop-i

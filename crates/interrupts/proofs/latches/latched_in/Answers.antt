@@ -1,7 +1,6 @@
 use mathlib.Core.Path.{ap, sym, ◌∙◌}
 use mathlib.Core.Bool.{not}
 use lib.ListN.{get_or}
-use borrow.Author.Rules.{rules}
 use Rattle.rules.specs.Registers.{simode0_of, simode1_of}
 use Rattle.image.specs.Image.{status_of, latches_of}
 use Rattle.image.specs.Layout.{latches_place, simode0_place, simode1_place}

@@ -1,5 +1,4 @@
 use mathlib.Core.Bool.{◌||◌}
-use borrow.Author.Rules.{rules}
 use Rattle.interrupts.specs.Latching.{latches_from}
 use Rattle.interrupts.proofs.latches.latches_from.Goals as goal
 

@@ -1,4 +1,3 @@
-use borrow.Author.Rules.{rules}
 use Rattle.interrupts.proofs.latches.latches_of_bytes.Goals as goal
 
 pub returns : goal.returns

@@ -1,4 +1,3 @@
-use borrow.Author.Rules.{rules}
 use Rattle.interrupts.proofs.StatusAndLatchBytes.{latches_placed}
 use Rattle.interrupts.proofs.latches.latches_put.Goals as goal
 

@@ -1,4 +1,3 @@
-use borrow.Author.Rules.{rules}
 use Rattle.rules.specs.Events.{writes, value_of}
 use Rattle.rules.specs.StepA.{latches_a, clears, clears_latch}
 use Rattle.interrupts.proofs.latches.latches_written.Goals as goal

@@ -1,6 +1,5 @@
 use mathlib.Core.Path.{ap, sym, ◌∙◌}
 use mathlib.Core.Bool.{not}
-use borrow.Author.Rules.{rules}
 use Rattle.image.specs.Image.{state_at}
 use Rattle.image.proofs.AtPlaces.{status_at}
 use Rattle.interrupts.proofs.StatusAndLatchBytes.{status_left, status_as}

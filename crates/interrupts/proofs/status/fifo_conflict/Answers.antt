@@ -1,6 +1,5 @@
 use mathlib.Core.Path.{◌≡◌, refl, sym, ◌∙◌}
 use mathlib.Core.Bool.{Bool, not, ◌&&◌}
-use borrow.Author.Rules.{rules}
 use Rattle.rules.specs.Seen.{normal, path}
 use Rattle.rules.specs.StepD.{fifo_conflict}
 use Rattle.rules.specs.declared.registers.Registers.{Registers}

@@ -1,6 +1,5 @@
 use mathlib.Core.Path.{ap, sym, ◌∙◌}
 use mathlib.Core.Bool.{Bool, ◌&&◌}
-use borrow.Author.Rules.{rules}
 use Rattle.rules.specs.Seen.{automatic}
 use Rattle.image.specs.Image.{registers_at}
 use Rattle.interrupts.proofs.status.is_raised.Goals as goal

@@ -1,6 +1,5 @@
 use mathlib.Core.Path.{◌≡◌, refl}
 use mathlib.Core.Bool.{Bool, not, ◌&&◌}
-use borrow.Author.Rules.{rules}
 use Rattle.rules.specs.Seen.{automatic, matched, req_seen}
 use Rattle.rules.specs.State.{State}
 use Rattle.rules.specs.StepD.{pio_ready}

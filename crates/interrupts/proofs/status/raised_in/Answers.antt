@@ -1,5 +1,4 @@
 use mathlib.Core.Path.{refl, sym, ◌∙◌}
-use borrow.Author.Rules.{rules}
 use Rattle.rules.specs.Seen.{automatic}
 use Rattle.rules.proofs.Logic.{left_true, right_true}
 use Rattle.image.specs.Image.{state_at}

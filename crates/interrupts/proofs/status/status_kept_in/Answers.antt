@@ -1,4 +1,3 @@
-use borrow.Author.Rules.{rules}
 use Rattle.image.specs.Image.{state_at}
 use Rattle.image.proofs.AtPlaces.{status_at}
 use Rattle.interrupts.proofs.StatusAndLatchBytes.{status_left}

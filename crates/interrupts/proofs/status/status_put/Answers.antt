@@ -1,4 +1,3 @@
-use borrow.Author.Rules.{rules}
 use Rattle.interrupts.proofs.StatusAndLatchBytes.{status_placed}
 use Rattle.interrupts.proofs.status.status_put.Goals as goal
 

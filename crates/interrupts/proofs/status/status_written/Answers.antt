@@ -1,5 +1,4 @@
 use mathlib.Core.Bool.{not, ◌&&◌, and-true}
-use borrow.Author.Rules.{rules}
 use lib.Dec.{eqb}
 use Rattle.rules.specs.Numbers.{bit}
 use Rattle.rules.specs.Events.{writes, value_of}

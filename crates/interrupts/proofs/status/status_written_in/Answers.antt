@@ -1,7 +1,6 @@
 use mathlib.Core.Path.{sym, ◌∙◌}
 use mathlib.Core.Bool.{false}
-use borrow.Author.Rules.{rules}
-use Rattle.rules.specs.StepA.{error_a, status_a}
+use Rattle.rules.specs.StepA.{status_a}
 use Rattle.rules.specs.declared.records.Event.TheVariants.{Write}
 use Rattle.image.specs.Image.{state_at}
 use Rattle.image.proofs.AtPlaces.{status_at}

@@ -1,7 +1,5 @@
-use Prim.Native.Nat.{ℕ}
 use mathlib.Core.Path.{◌≡◌, refl, ap, ◌∙◌}
 use mathlib.Core.Bool.{Bool, cond}
-use borrow.Author.Rules.{rules}
 use Rattle.rules.specs.Seen.{normal, phase_drives, phase_data}
 use Rattle.rules.specs.State.{State}
 use Rattle.rules.specs.declared.chip.Phase.{Phase}

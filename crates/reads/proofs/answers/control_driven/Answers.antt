@@ -1,8 +1,5 @@
-use borrow.Author.Rules.{rules}
-use mathlib.Core.Path.{◌≡◌, refl, sym, ap, ◌∙◌}
+use mathlib.Core.Path.{◌≡◌, sym, ap, ◌∙◌}
 use mathlib.Core.Bool.{Bool, false, ◌||◌}
-use Prim.Native.Nat.{ℕ, ◌%◌}
-use lib.ListN.{get_or}
 use Rattle.rules.specs.Numbers.{byte_of}
 use Rattle.rules.specs.Seen.{phase_bsy, phase_sel, ack_driven}
 use Rattle.rules.specs.State.{State}
@@ -10,7 +7,6 @@ use Rattle.rules.specs.Answers.{control_driven}
 use Rattle.rules.specs.declared.chip.Phase.{Phase}
 use Rattle.rules.specs.declared.chip.Phase.TheVariants.{Idle}
 use Rattle.image.specs.Image.{state_at, phase_of}
-use Rattle.image.specs.Layout.{sequencer_place}
 use Rattle.reads.proofs.answers.control_driven.Goals as goal
 
 -- with the lines that the phase gives

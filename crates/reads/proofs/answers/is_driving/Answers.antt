@@ -1,6 +1,5 @@
 use mathlib.Core.Path.{◌≡◌, refl, ap, sym, ◌∙◌}
-use mathlib.Core.Bool.{Bool, true, false, not, ◌&&◌, ◌||◌, and-false}
-use borrow.Author.Rules.{rules}
+use mathlib.Core.Bool.{Bool, true, false, not, and-false}
 use Rattle.rules.specs.State.{State}
 use Rattle.rules.specs.Seen.{phase_drives, io_seen, byte_driving, driving}
 use Rattle.rules.proofs.Logic.{left_true, right_true}

@@ -1,4 +1,3 @@
-use borrow.Author.Rules.{rules}
 use Rattle.reads.proofs.answers.parity_of.Goals as goal
 
 pub returns-then-driving : goal.returns-then-driving

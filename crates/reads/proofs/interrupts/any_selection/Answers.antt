@@ -1,4 +1,3 @@
-use borrow.Author.Rules.{rules}
 use lib.ListN.{get_or}
 use Rattle.image.specs.Image.{state_at}
 use Rattle.image.specs.Layout.{selection_latches_place}

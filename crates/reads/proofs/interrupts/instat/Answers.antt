@@ -1,4 +1,3 @@
-use borrow.Author.Rules.{rules}
 use mathlib.Core.Path.{ap₂}
 use mathlib.Core.Bool.{◌||◌}
 use Rattle.rules.specs.Interrupts.{instat}

@@ -1,4 +1,3 @@
-use borrow.Author.Rules.{rules}
 use Rattle.rules.specs.Interrupts.{instat, irq}
 use Rattle.image.specs.Image.{state_at}
 use Rattle.reads.proofs.Gates.{where_on, where_off}

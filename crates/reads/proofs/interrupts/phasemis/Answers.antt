@@ -1,4 +1,3 @@
-use borrow.Author.Rules.{rules}
 use Rattle.rules.specs.Seen.{mismatched}
 use Rattle.rules.specs.Interrupts.{phasemis}
 use Rattle.image.specs.Image.{state_at}

@@ -1,4 +1,3 @@
-use borrow.Author.Rules.{rules}
 use mathlib.Core.Path.{refl}
 use Rattle.rules.specs.Reads.{id_bytes}
 use Rattle.reads.proofs.status.id_at.Goals as goal

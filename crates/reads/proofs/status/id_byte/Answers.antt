@@ -1,4 +1,3 @@
-use borrow.Author.Rules.{rules}
 use Rattle.image.specs.Image.{state_at}
 use Rattle.image.proofs.AtPlaces.{at_identity}
 use Rattle.reads.proofs.status.id_byte.Goals as goal

@@ -1,4 +1,3 @@
-use borrow.Author.Rules.{rules}
 use mathlib.Core.Path.{◌∙◌}
 use Rattle.rules.specs.Numbers.{byte_of}
 use Rattle.rules.specs.Reads.{scsisigi}

@@ -1,4 +1,3 @@
-use borrow.Author.Rules.{rules}
 use native.Mathlib.Omega.{arith}
 use Rattle.image.proofs.AtPlaces.{place_inside, at_place}
 use Rattle.reads.proofs.status.stack_byte.Goals as goal

@@ -1,4 +1,3 @@
-use borrow.Author.Rules.{rules}
 use native.Mathlib.Omega.{arith}
 use Rattle.image.proofs.AtPlaces.{parts_fit, parts_join}
 use Rattle.reads.proofs.values.dmacntrl1.Goals as goal

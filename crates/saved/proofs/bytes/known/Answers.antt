@@ -2,7 +2,6 @@ use Prim.Native.Nat.{ℕ, suc, ◌<◌}
 use mathlib.Core.List.{List, [], ◌∷◌}
 use native.Mathlib.Omega.{arith}
 use lib.ListN.{get_or}
-use borrow.Author.Rules.{rules}
 use Rattle.rules.specs.Ranges.{Bytes}
 use Rattle.saved.proofs.bytes.known.Goals as goal
 

@@ -4,7 +4,6 @@ use mathlib.Core.List.{List}
 use Prim.Native.Nat.{ℕ}
 use lib.Dec.{leb}
 use lib.ListN.{get_or}
-use borrow.Author.Rules.{rules}
 use Rattle.rules.specs.declared.chip.Phase.{Phase}
 use Rattle.image.specs.Image.{state_at}
 use Rattle.image.specs.Layout.{quiet_place}

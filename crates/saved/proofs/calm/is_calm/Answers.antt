@@ -1,6 +1,5 @@
 use mathlib.Core.Path.{◌≡◌, sym, ap, ◌∙◌}
 use mathlib.Core.Bool.{Bool, true, false, not, ◌&&◌, cond}
-use borrow.Author.Rules.{rules}
 use Rattle.rules.specs.Seen.{is_phase, rst_seen}
 use Rattle.rules.specs.State.{State}
 use Rattle.rules.specs.declared.chip.Phase.{Phase}

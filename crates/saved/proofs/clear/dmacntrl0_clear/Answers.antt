@@ -1,4 +1,3 @@
-use borrow.Author.Rules.{rules}
 use Rattle.rules.specs.Registers.{dmacntrl0_of, dmacntrl0_byte}
 use Rattle.saved.proofs.Truth.{again_is}
 use Rattle.saved.proofs.clear.dmacntrl0_clear.Goals as goal

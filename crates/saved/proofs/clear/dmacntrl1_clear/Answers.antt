@@ -1,4 +1,3 @@
-use borrow.Author.Rules.{rules}
 use Rattle.rules.specs.Registers.{dmacntrl1_of, dmacntrl1_byte}
 use Rattle.rules.specs.declared.registers.Dmacntrl1.{Dmacntrl1}
 use Rattle.saved.proofs.Truth.{again_is}

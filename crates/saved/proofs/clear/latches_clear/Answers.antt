@@ -1,4 +1,3 @@
-use borrow.Author.Rules.{rules}
 use Rattle.image.specs.Image.{latches_of, latches_byte}
 use Rattle.saved.proofs.Truth.{again_is}
 use Rattle.saved.proofs.clear.latches_clear.Goals as goal

@@ -1,4 +1,3 @@
-use borrow.Author.Rules.{rules}
 use Rattle.saved.specs.Tests.{others_clear}
 use Rattle.saved.proofs.clear.others_clear.Goals as goal
 

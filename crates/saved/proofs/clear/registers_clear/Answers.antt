@@ -1,4 +1,3 @@
-use borrow.Author.Rules.{rules}
 use Rattle.saved.specs.Tests.{registers_clear}
 use Rattle.saved.proofs.clear.registers_clear.Goals as goal
 

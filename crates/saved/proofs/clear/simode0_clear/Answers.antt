@@ -1,4 +1,3 @@
-use borrow.Author.Rules.{rules}
 use Rattle.rules.specs.Registers.{simode0_of, simode0_byte}
 use Rattle.saved.proofs.Truth.{again_is}
 use Rattle.saved.proofs.clear.simode0_clear.Goals as goal

@@ -1,4 +1,3 @@
-use borrow.Author.Rules.{rules}
 use Rattle.rules.specs.Registers.{sxfrctl0_of, sxfrctl0_byte}
 use Rattle.saved.proofs.Truth.{again_is}
 use Rattle.saved.proofs.clear.sxfrctl0_clear.Goals as goal

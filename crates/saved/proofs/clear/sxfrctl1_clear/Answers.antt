@@ -1,4 +1,3 @@
-use borrow.Author.Rules.{rules}
 use Rattle.rules.specs.Registers.{sxfrctl1_of, sxfrctl1_byte}
 use Rattle.saved.proofs.Truth.{again_is}
 use Rattle.saved.proofs.clear.sxfrctl1_clear.Goals as goal

@@ -1,10 +1,8 @@
 -- The loop's invariant: the first i bytes are in their places, and the length is as it was.
-use Prim.Native.Nat.{◌-◌}
-use mathlib.Core.Path.{◌≡◌, refl}
+use mathlib.Core.Path.{refl}
 use native.Mathlib.Omega.{arith}
-use borrow.Author.Rules.{rules}
 use lib.ListN.{length, length-set}
-use Rattle.image.proofs.Pastes.{Pasted, begun, again}
+use Rattle.image.proofs.Pastes.{begun, again}
 use Rattle.saved.proofs.Lent.{copied_whole}
 use Rattle.saved.proofs.copies.copy.Goals as goal
 

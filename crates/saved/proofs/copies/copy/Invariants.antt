@@ -1,11 +1,7 @@
 -- The loop's invariant: the first i bytes are in their places, and the length is as it was.
-use Prim.Native.Nat.{◌-◌}
-use mathlib.Core.Path.{◌≡◌, refl}
-use native.Mathlib.Omega.{arith}
-use borrow.Author.Rules.{rules}
-use lib.ListN.{length, length-set}
-use Rattle.image.proofs.Pastes.{Pasted, begun, again}
-use Rattle.saved.proofs.Lent.{copied_whole}
+use mathlib.Core.Path.{◌≡◌}
+use lib.ListN.{length}
+use Rattle.image.proofs.Pastes.{Pasted}
 use Rattle.saved.proofs.copies.copy.Given as goal
 
 abbrev pub invariant-loop-i : goal.invariant-loop-i

@@ -1,7 +1,6 @@
-use Prim.Native.Nat.{◌-◌}
 use mathlib.Core.Path.{refl}
 use native.Mathlib.Omega.{arith}
-use Rattle.saved.proofs.Zeros.{Joined, begun, again, ended}
+use Rattle.saved.proofs.Zeros.{begun, again, ended}
 use Rattle.saved.proofs.past.is_zero.Goals as goal
 
 pub loop-i-init : goal.loop-i-init

@@ -1,7 +1,4 @@
-use Prim.Native.Nat.{◌-◌}
-use mathlib.Core.Path.{refl}
-use native.Mathlib.Omega.{arith}
-use Rattle.saved.proofs.Zeros.{Joined, begun, again, ended}
+use Rattle.saved.proofs.Zeros.{Joined}
 use Rattle.saved.proofs.past.is_zero.Given as goal
 
 abbrev pub invariant-loop-i : goal.invariant-loop-i

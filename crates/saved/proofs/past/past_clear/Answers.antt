@@ -1,4 +1,3 @@
-use borrow.Author.Rules.{rules}
 use Rattle.saved.specs.Tests.{past_clear}
 use Rattle.saved.proofs.past.past_clear.Goals as goal
 

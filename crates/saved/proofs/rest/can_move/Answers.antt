@@ -1,4 +1,3 @@
-use borrow.Author.Rules.{rules}
 use Rattle.image.specs.Image.{state_at}
 use Rattle.image.proofs.AtPlaces.{at_host, at_scsi}
 use Rattle.saved.proofs.Settled.{move_out, move_in}

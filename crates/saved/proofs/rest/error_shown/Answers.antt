@@ -1,5 +1,4 @@
 use mathlib.Core.Path.{sym, ◌∙◌}
-use borrow.Author.Rules.{rules}
 use Rattle.rules.specs.StepD.{fifo_conflict}
 use Rattle.image.specs.Image.{registers_at}
 use Rattle.saved.proofs.Truth.{set_shown, unset_shown}

@@ -1,4 +1,3 @@
-use borrow.Author.Rules.{rules}
 use Rattle.saved.specs.Tests.{resting}
 use Rattle.saved.proofs.rest.is_resting.Goals as goal
 

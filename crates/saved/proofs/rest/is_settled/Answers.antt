@@ -1,5 +1,4 @@
 use mathlib.Core.Path.{sym, ◌∙◌}
-use borrow.Author.Rules.{rules}
 use Rattle.image.specs.Image.{state_at}
 use Rattle.saved.proofs.Settled.{looked_settled, pathless_settled}
 use Rattle.saved.proofs.rest.is_settled.Goals as goal

@@ -1,4 +1,3 @@
-use borrow.Author.Rules.{rules}
 use Rattle.image.specs.Image.{state_at}
 use Rattle.saved.specs.Tests.{quiet_fits}
 use Rattle.saved.proofs.rest.quiet_fits.Goals as goal

@@ -1,5 +1,4 @@
 use mathlib.Core.Path.{sym, ◌∙◌}
-use borrow.Author.Rules.{rules}
 use Rattle.rules.specs.StepD.{pio_ready}
 use Rattle.image.specs.Image.{state_at}
 use Rattle.saved.proofs.Truth.{set_shown, unset_shown}

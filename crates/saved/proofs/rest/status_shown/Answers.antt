@@ -1,5 +1,4 @@
 use mathlib.Core.Bool.{not, ◌&&◌, ◌||◌}
-use borrow.Author.Rules.{rules}
 use Rattle.image.specs.Image.{state_at}
 use Rattle.saved.specs.Tests.{status_shown}
 use Rattle.saved.proofs.rest.status_shown.Goals as goal

@@ -2,7 +2,6 @@ use mathlib.Core.Bool.{not}
 use Prim.Native.Nat.{ℕ}
 use mathlib.Core.Path.{refl, ap, ◌∙◌}
 use mathlib.Core.List.{List}
-use borrow.Author.Rules.{rules}
 use Rattle.rules.specs.Chips.{chip_of}
 use Rattle.image.specs.Image.{state_at}
 use Rattle.saved.proofs.Acceptance.{accepted_acceptable}

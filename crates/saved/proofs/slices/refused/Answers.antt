@@ -1,8 +1,4 @@
 use mathlib.Core.Bool.{false}
-use mathlib.Core.Path.{ap}
-use borrow.Author.Rules.{rules}
-use Rattle.rules.specs.declared.chip.Chip.{Chip}
-use Rattle.saved.specs.declared.slices.Loaded.{Loaded}
 use Rattle.saved.proofs.slices.refused.Goals as goal
 
 pub returns : goal.returns

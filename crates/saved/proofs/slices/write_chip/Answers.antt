@@ -1,5 +1,4 @@
 use mathlib.Core.Path.{sym, ◌∙◌}
-use borrow.Author.Rules.{rules}
 use Rattle.rules.specs.Chips.{view}
 use Rattle.step.proofs.Parts.{tidy_of}
 use Rattle.saved.proofs.Acceptance.{acceptable_length}

@@ -1,5 +1,5 @@
-use mathlib.Core.Path.{◌≡◌, refl, ap, sym, ◌∙◌}
-use mathlib.Core.Bool.{Bool, true, false, not, ◌&&◌, ◌||◌, cond}
+use mathlib.Core.Path.{ap}
+use mathlib.Core.Bool.{not, ◌&&◌}
 use Rattle.rules.specs.declared.registers.Scsiseq.{Scsiseq}
 use borrow.Author.Rules.{rules}
 use Rattle.image.specs.Image.{state_at}

@@ -1,6 +1,5 @@
-use Prim.Native.Nat.{ℕ, ◌<◌}
-use mathlib.Core.Path.{◌≡◌, ap, sym, subst, ◌∙◌}
-use borrow.Author.Rules.{rules}
+use Prim.Native.Nat.{◌<◌}
+use mathlib.Core.Path.{ap, sym, subst, ◌∙◌}
 use Rattle.rules.specs.Counter.{counter_size}
 use Rattle.rules.specs.StepB.{after_sequencer}
 use Rattle.rules.specs.declared.chip.Sequenced.{Sequenced}

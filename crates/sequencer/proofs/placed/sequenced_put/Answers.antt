@@ -1,6 +1,5 @@
-use mathlib.Core.Path.{◌≡◌, ap, ◌∙◌}
+use mathlib.Core.Path.{◌∙◌}
 use lib.ListN.{set}
-use borrow.Author.Rules.{rules}
 use Rattle.image.specs.Image.{state_at}
 use Rattle.image.specs.Layout.{quiet_place, scsiseq_place, scsisig_place}
 use Rattle.sequencer.proofs.InPlace.{sequenced_image}

@@ -1,5 +1,3 @@
-use borrow.Author.Rules.{rules}
-use borrow.Author.Tests.{not-true, not-false}
 use Rattle.sequencer.proofs.placed.sequenced_unless.Goals as goal
 
 pub returns-then-not-rests : goal.returns-then-not-rests

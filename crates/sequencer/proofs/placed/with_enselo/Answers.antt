@@ -1,4 +1,3 @@
-use borrow.Author.Rules.{rules}
 use Rattle.sequencer.proofs.placed.with_enselo.Goals as goal
 
 pub returns : goal.returns

@@ -1,6 +1,5 @@
 use mathlib.Core.Path.{◌≡◌, refl}
 use mathlib.Core.Bool.{Bool, true, false, not, ◌&&◌, ◌||◌}
-use borrow.Author.Rules.{rules}
 use Rattle.rules.specs.Sequencer.{latch_raised}
 use Rattle.sequencer.proofs.raised.latch_raised.Goals as goal
 

@@ -1,5 +1,3 @@
-use mathlib.Core.Path.{◌≡◌, refl, ap, sym, ◌∙◌}
-use borrow.Author.Rules.{rules}
 use Rattle.sequencer.proofs.resolved.idled.Goals as goal
 
 pub returns-then-is_phase : goal.returns-then-is_phase

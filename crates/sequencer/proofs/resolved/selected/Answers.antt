@@ -1,10 +1,9 @@
-use mathlib.Core.Path.{◌≡◌, refl, ap, sym, ◌∙◌}
-use mathlib.Core.Bool.{Bool, true, false, not, ◌&&◌, ◌||◌, cond}
+use mathlib.Core.Path.{◌≡◌, ap, ◌∙◌}
+use mathlib.Core.Bool.{Bool, ◌&&◌, ◌||◌, cond}
 use Rattle.rules.specs.State.{State}
 use Rattle.rules.specs.Seen.{is_phase}
 use Rattle.rules.specs.Sequencer.{connects}
 use Rattle.rules.specs.declared.chip.Sequenced.{Sequenced}
-use Rattle.rules.specs.declared.chip.Phase.{Phase}
 use Rattle.rules.specs.declared.chip.Phase.TheVariants.{Selecting, Holding}
 use Rattle.image.specs.Image.{state_at}
 use borrow.Author.Rules.{rules}

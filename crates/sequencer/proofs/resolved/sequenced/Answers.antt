@@ -1,7 +1,6 @@
 use Prim.Native.Nat.{ℕ, ◌<◌}
 use mathlib.Core.Path.{◌≡◌, ap, sym, subst, ◌∙◌}
 use mathlib.Core.Bool.{Bool, cond}
-use borrow.Author.Rules.{rules}
 use Rattle.rules.specs.Counter.{counter_size}
 use Rattle.rules.specs.State.{State}
 use Rattle.rules.specs.Seen.{rst_seen}

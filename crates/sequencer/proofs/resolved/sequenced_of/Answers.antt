@@ -1,4 +1,3 @@
-use mathlib.Core.Path.{◌≡◌, refl, ap, sym, ◌∙◌}
 use Rattle.image.specs.Layout.{quiet_place}
 use lib.ListN.{get_or}
 use borrow.Author.Rules.{rules}

@@ -1,4 +1,3 @@
-use borrow.Author.Rules.{rules}
 use Rattle.sequencer.proofs.resolved.ticked.Goals as goal
 
 pub returns-then-tick : goal.returns-then-tick

@@ -4,7 +4,6 @@ use mathlib.Core.Bool.{cond}
 use native.Mathlib.Omega.{arith}
 use lib.Dec.{eqb}
 use lib.ListN.{set}
-use borrow.Author.Rules.{rules}
 use Rattle.rules.specs.Changed.{with_quiet, with_sequencer}
 use Rattle.rules.specs.Counter.{counter_size}
 use Rattle.rules.specs.Ranges.{InRange}

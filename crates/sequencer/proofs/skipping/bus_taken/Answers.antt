@@ -1,5 +1,4 @@
 use mathlib.Core.Bool.{◌||◌}
-use borrow.Author.Rules.{rules}
 use Rattle.sequencer.proofs.skipping.bus_taken.Goals as goal
 
 pub returns : goal.returns

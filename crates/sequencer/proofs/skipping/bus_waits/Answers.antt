@@ -1,7 +1,6 @@
 use mathlib.Core.Bool.{not, ◌&&◌}
 use lib.Dec.{leb}
 use lib.ListN.{get_or}
-use borrow.Author.Rules.{rules}
 use Rattle.image.specs.Image.{state_at}
 use Rattle.image.specs.Layout.{quiet_place}
 use Rattle.sequencer.proofs.skipping.bus_waits.Goals as goal

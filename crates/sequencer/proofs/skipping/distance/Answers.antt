@@ -1,6 +1,5 @@
 use mathlib.Core.Path.{◌≡◌, ap, sym, ◌∙◌}
 use mathlib.Core.Bool.{cond}
-use borrow.Author.Rules.{rules}
 use Rattle.rules.specs.State.{State}
 use Rattle.rules.specs.Sequencer.{bus_free_delay, arbitration_delay, clearing_delay, settle_delay}
 use Rattle.rules.specs.Ticks.{distance, distance_in, delay_left, unreached}

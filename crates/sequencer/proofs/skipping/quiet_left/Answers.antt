@@ -1,5 +1,4 @@
 use borrow.Author.Tests.{le-leb, lt-leb}
-use borrow.Author.Rules.{rules}
 use Rattle.sequencer.proofs.skipping.quiet_left.Goals as goal
 
 pub returns-then-quiet-ge8 : goal.returns-then-quiet-ge8

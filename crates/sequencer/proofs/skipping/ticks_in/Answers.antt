@@ -1,7 +1,6 @@
 use Prim.Native.Nat.{ℕ, ◌+◌}
 use mathlib.Core.Path.{◌≡◌, ap, sym, ◌∙◌}
 use mathlib.Core.Bool.{cond}
-use borrow.Author.Rules.{rules}
 use Rattle.rules.specs.State.{State}
 use Rattle.rules.specs.Ticks.{ticks_in}
 use Rattle.rules.specs.declared.chip.Phase.{Phase}

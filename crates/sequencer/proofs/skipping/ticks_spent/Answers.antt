@@ -1,5 +1,4 @@
 use mathlib.Core.Path.{ap}
-use borrow.Author.Rules.{rules}
 use Rattle.rules.specs.declared.chip.Sequencer.{Sequencer}
 use Rattle.sequencer.proofs.skipping.ticks_spent.Goals as goal
 

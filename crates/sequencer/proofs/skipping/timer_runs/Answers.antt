@@ -1,5 +1,4 @@
 use mathlib.Core.Path.{ap}
-use borrow.Author.Rules.{rules}
 use Rattle.image.specs.Image.{state_at}
 use Rattle.rules.specs.declared.registers.Sxfrctl1.{Sxfrctl1}
 use Rattle.sequencer.proofs.skipping.timer_runs.Goals as goal

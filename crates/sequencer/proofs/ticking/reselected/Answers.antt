@@ -1,8 +1,8 @@
-use mathlib.Core.Path.{◌≡◌, refl, ap, sym, ◌∙◌}
-use mathlib.Core.Bool.{Bool, true, false, not, ◌&&◌, ◌||◌, cond}
+use mathlib.Core.Path.{ap, ◌∙◌}
+use mathlib.Core.Bool.{◌||◌}
 use borrow.Author.Rules.{rules}
 use Rattle.image.specs.Image.{state_at}
-use Rattle.rules.specs.Sequencer.{reselected, seldi_raised, in_phase}
+use Rattle.rules.specs.Sequencer.{reselected, seldi_raised}
 use Rattle.sequencer.proofs.ticking.reselected.Goals as goal
 
 pub returns : goal.returns

@@ -1,8 +1,8 @@
-use mathlib.Core.Path.{◌≡◌, refl, ap, sym, ◌∙◌}
-use mathlib.Core.Bool.{Bool, true, false, not, ◌&&◌, ◌||◌, cond}
+use mathlib.Core.Path.{ap, ◌∙◌}
+use mathlib.Core.Bool.{◌||◌}
 use borrow.Author.Rules.{rules}
 use Rattle.image.specs.Image.{state_at}
-use Rattle.rules.specs.Sequencer.{selects, selingo_raised, in_phase}
+use Rattle.rules.specs.Sequencer.{selects, selingo_raised}
 use Rattle.sequencer.proofs.ticking.selects.Goals as goal
 
 pub returns : goal.returns

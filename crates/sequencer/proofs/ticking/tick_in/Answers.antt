@@ -1,10 +1,8 @@
 use Prim.Native.Nat.{ℕ, ◌+◌}
-use mathlib.Core.Path.{◌≡◌, ap, sym, ◌∙◌}
-use mathlib.Core.Bool.{Bool, not, ◌&&◌, ◌||◌, cond}
+use mathlib.Core.Path.{ap, sym, ◌∙◌}
+use mathlib.Core.Bool.{not, ◌&&◌, ◌||◌, cond}
 use lib.Dec.{leb}
-use borrow.Author.Rules.{rules}
-use Rattle.rules.specs.Sequencer.{waiting_for, arbitrating_for, clearing_for, selecting_for, answering_for, tick_in}
-use Rattle.rules.specs.declared.registers.Sxfrctl1.{Sxfrctl1}
+use Rattle.rules.specs.Sequencer.{waiting_for, selecting_for, tick_in}
 use Rattle.rules.specs.declared.chip.Phase.{Phase}
 use Rattle.image.specs.Image.{state_at}
 use Rattle.sequencer.proofs.ticking.tick_in.Goals as goal

@@ -1,5 +1,5 @@
-use mathlib.Core.Path.{◌≡◌, refl, ap, sym, ◌∙◌}
-use mathlib.Core.Bool.{Bool, true, false, not, ◌&&◌, ◌||◌, cond}
+use mathlib.Core.Path.{ap, ◌∙◌}
+use mathlib.Core.Bool.{false, cond}
 use Rattle.rules.specs.declared.chip.Phase.{Phase}
 use Rattle.rules.specs.declared.chip.Phase.TheVariants.{Idle, Holding}
 use borrow.Author.Rules.{rules}

@@ -1,7 +1,6 @@
 use mathlib.Core.Path.{◌≡◌, ◌∙◌}
 use native.Mathlib.Omega.{arith}
 use lib.ListN.{length}
-use borrow.Author.Rules.{rules}
 use Rattle.image.specs.Image.{state_at}
 use Rattle.settling.proofs.ReadBackOfTransfer.{long}
 use Rattle.settling.proofs.Carries.{host_held, behind_host, scsi_there, carried_in}

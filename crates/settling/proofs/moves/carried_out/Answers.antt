@@ -1,7 +1,6 @@
 use mathlib.Core.Path.{◌≡◌, ◌∙◌}
 use native.Mathlib.Omega.{arith}
 use lib.ListN.{length}
-use borrow.Author.Rules.{rules}
 use Rattle.image.specs.Image.{state_at}
 use Rattle.settling.proofs.ReadBackOfTransfer.{long}
 use Rattle.settling.proofs.Carries.{scsi_held, behind_scsi, host_there, carried_out}

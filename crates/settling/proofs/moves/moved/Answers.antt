@@ -1,8 +1,6 @@
 use Prim.Native.Nat.{ℕ}
 use mathlib.Core.Path.{◌≡◌, sym, ap, ◌∙◌}
 use native.Mathlib.Omega.{arith}
-use native.Mathlib.Nat.{le_refl}
-use borrow.Author.Rules.{rules}
 use Rattle.rules.specs.State.{Transfer}
 use Rattle.settling.specs.Blocks.{movable, carried}
 use Rattle.settling.proofs.Runs.{run_small}

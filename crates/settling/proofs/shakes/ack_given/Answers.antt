@@ -1,6 +1,5 @@
 use mathlib.Core.Path.{sym, ap, ◌∙◌}
 use mathlib.Core.Bool.{Bool}
-use borrow.Author.Rules.{rules}
 use Rattle.settling.specs.Blocks.{acknowledged}
 use Rattle.rules.specs.Changed.{with_transfer}
 use Rattle.image.specs.Image.{image_of, state_at}

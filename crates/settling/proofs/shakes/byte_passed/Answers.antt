@@ -4,7 +4,6 @@ use mathlib.Core.Bool.{Bool, cond}
 use mathlib.Core.List.{List, [], ◌∷◌, ◌++◌}
 use lib.ListN.{take}
 use native.Mathlib.Omega.{arith}
-use borrow.Author.Rules.{rules}
 use Rattle.rules.specs.State.{Transfer}
 use Rattle.rules.specs.StepC.{stored_by}
 use Rattle.rules.proofs.Rest.{handshake_inbound, handshake_outbound}

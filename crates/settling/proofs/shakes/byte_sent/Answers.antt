@@ -1,6 +1,5 @@
 use mathlib.Core.Path.{refl}
 use native.Mathlib.Omega.{arith}
-use borrow.Author.Rules.{rules}
 use Rattle.settling.proofs.Carries.{scsi_held}
 use Rattle.settling.proofs.Handshakes.{byte_oldest, byte_sent}
 use Rattle.settling.proofs.shakes.byte_sent.Goals as goal

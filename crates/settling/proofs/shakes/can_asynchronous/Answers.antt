@@ -1,5 +1,4 @@
 use mathlib.Core.Bool.{true, false}
-use borrow.Author.Rules.{rules}
 use Rattle.image.specs.Image.{state_at}
 use Rattle.settling.proofs.Tests.{asynchronous_by}
 use Rattle.settling.proofs.Carries.{scsi_held}

@@ -1,9 +1,9 @@
 -- The loop's invariant: as many bytes as passed are copied, and zeros stand behind them.
 use mathlib.Core.Path.{◌≡◌, refl, ◌∙◌}
 use mathlib.Core.List.{List}
-use Prim.Native.Nat.{ℕ, ◌-◌, ◌≤◌}
+use Prim.Native.Nat.{ℕ}
 use native.Mathlib.Omega.{arith}
-use lib.ListN.{length, take, length-take}
+use lib.ListN.{take, length-take}
 use Rattle.rules.specs.Numbers.{padded}
 use Rattle.laws.proofs.Lists.{padded_copy, padded_full}
 use Rattle.stackhost.proofs.kept.bytes_in.Goals as goal

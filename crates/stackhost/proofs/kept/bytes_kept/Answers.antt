@@ -1,12 +1,12 @@
 -- The loop's invariant: as many bytes as passed stand in their place.
 use mathlib.Core.Path.{◌≡◌, refl, ap, sym, ◌∙◌}
 use mathlib.Core.List.{List, ◌++◌}
-use Prim.Native.Nat.{ℕ, ◌+◌, ◌-◌, ◌≤◌}
+use Prim.Native.Nat.{ℕ}
 use borrow.Author.Rules.{rules}
 use native.Mathlib.Omega.{arith}
 use native.Mathlib.Nat.{zero-add}
 use native.Mathlib.Numerals.{add-one}
-use lib.ListN.{length, drop, set, get_or, length-set}
+use lib.ListN.{drop, set, get_or, length-set}
 use lib.Seq.{take_all, paste, paste-zero, paste-suc}
 use Rattle.stackhost.proofs.kept.bytes_kept.Goals as goal
 

@@ -1,13 +1,8 @@
 -- The loop's invariant: as many bytes as passed stand in their place.
-use mathlib.Core.Path.{◌≡◌, refl, ap, sym, ◌∙◌}
-use mathlib.Core.List.{List, ◌++◌}
-use Prim.Native.Nat.{ℕ, ◌+◌, ◌-◌, ◌≤◌}
-use borrow.Author.Rules.{rules}
-use native.Mathlib.Omega.{arith}
-use native.Mathlib.Nat.{zero-add}
-use native.Mathlib.Numerals.{add-one}
-use lib.ListN.{length, drop, set, get_or, length-set}
-use lib.Seq.{take_all, paste, paste-zero, paste-suc}
+use mathlib.Core.Path.{◌≡◌}
+use Prim.Native.Nat.{◌≤◌}
+use lib.ListN.{length}
+use lib.Seq.{paste}
 use Rattle.stackhost.proofs.kept.bytes_kept.Given as goal
 
 abbrev pub invariant-loop-i : goal.invariant-loop-i

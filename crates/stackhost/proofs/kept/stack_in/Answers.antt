@@ -1,4 +1,3 @@
-use borrow.Author.Rules.{rules}
 use Rattle.stackhost.proofs.kept.stack_in.Goals as goal
 
 pub returns : goal.returns

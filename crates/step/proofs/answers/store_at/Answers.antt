@@ -1,12 +1,12 @@
 -- The loop's invariant: as many bytes as passed stand in their place.
 use mathlib.Core.Path.{◌≡◌, refl, ap, ◌∙◌}
 use mathlib.Core.List.{List, ◌++◌}
-use Prim.Native.Nat.{ℕ, ◌+◌, ◌-◌, ◌≤◌, ◌<◌, ◌^◌}
+use Prim.Native.Nat.{ℕ, ◌+◌}
 use borrow.Author.Rules.{rules}
 use native.Mathlib.Omega.{arith}
 use native.Mathlib.Numerals.{add-one}
-use lib.ListN.{length, take, drop, length-set}
-use lib.Seq.{take_all, paste, paste-zero, paste-suc}
+use lib.ListN.{take, drop, length-set}
+use lib.Seq.{take_all, paste-zero, paste-suc}
 use Rattle.step.proofs.answers.store_at.Goals as goal
 
 pub loop-i-init : goal.loop-i-init

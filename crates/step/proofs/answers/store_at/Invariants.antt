@@ -1,12 +1,8 @@
 -- The loop's invariant: as many bytes as passed stand in their place.
-use mathlib.Core.Path.{◌≡◌, refl, ap, ◌∙◌}
-use mathlib.Core.List.{List, ◌++◌}
-use Prim.Native.Nat.{ℕ, ◌+◌, ◌-◌, ◌≤◌, ◌<◌, ◌^◌}
-use borrow.Author.Rules.{rules}
-use native.Mathlib.Omega.{arith}
-use native.Mathlib.Numerals.{add-one}
-use lib.ListN.{length, take, drop, length-set}
-use lib.Seq.{take_all, paste, paste-zero, paste-suc}
+use mathlib.Core.Path.{◌≡◌}
+use Prim.Native.Nat.{◌+◌, ◌≤◌, ◌<◌, ◌^◌}
+use lib.ListN.{length}
+use lib.Seq.{paste}
 use Rattle.step.proofs.answers.store_at.Given as goal
 
 abbrev pub invariant-loop-i : goal.invariant-loop-i

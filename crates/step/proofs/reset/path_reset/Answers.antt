@@ -1,6 +1,5 @@
 use Rattle.rules.specs.Chips.{path_of}
 use Rattle.rules.specs.State.{power_reset}
-use borrow.Author.Rules.{rules}
 use Rattle.step.proofs.reset.path_reset.Goals as goal
 
 pub returns : goal.returns

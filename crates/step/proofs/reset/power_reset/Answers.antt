@@ -1,6 +1,5 @@
 use Rattle.rules.specs.Chips.{chip_of}
 use Rattle.rules.specs.State.{power_reset}
-use borrow.Author.Rules.{rules}
 use Rattle.step.proofs.reset.power_reset.Goals as goal
 
 pub returns : goal.returns

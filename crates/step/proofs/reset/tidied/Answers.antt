@@ -1,6 +1,5 @@
 use Rattle.step.proofs.Tidied.{view_fits}
 use Rattle.rules.specs.Chips.{chip_of, view}
-use borrow.Author.Rules.{rules}
 use Rattle.step.proofs.reset.tidied.Goals as goal
 
 pub returns : goal.returns

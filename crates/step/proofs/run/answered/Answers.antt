@@ -1,18 +1,14 @@
 -- The loop's invariant: the image and the answers are those of the records passed.
-use mathlib.Core.Path.{◌≡◌, refl, ap, sym, ◌∙◌}
-use mathlib.Core.List.{List, ◌++◌}
-use Prim.Native.Nat.{ℕ, ◌+◌, ◌-◌, ◌*◌, ◌≤◌, ◌<◌, ◌^◌}
+use mathlib.Core.Path.{◌≡◌, refl, ap, ◌∙◌}
+use mathlib.Core.List.{◌++◌}
+use Prim.Native.Nat.{ℕ, ◌*◌}
 use borrow.Author.Rules.{rules}
 use native.Mathlib.Omega.{arith}
-use lib.ListN.{length, drop}
-use Rattle.rules.specs.State.{State}
-use Rattle.rules.specs.Chips.{view, chip_of}
+use lib.ListN.{drop}
 use Rattle.rules.specs.Step.{after, answers}
-use Rattle.image.specs.Image.{image_of, state_at, IsImage}
-use Rattle.image.proofs.ReadBack.{read_back}
+use Rattle.image.specs.Image.{image_of, state_at}
 use Rattle.step.specs.Runs.{records_of, stepped_in, joined}
-use Rattle.step.proofs.Parts.{tidy_of, view_of}
-use Rattle.step.proofs.Running.{image_reached, state_reached, image_next, answers_more}
+use Rattle.step.proofs.Running.{image_reached, image_next, answers_more}
 use Rattle.step.proofs.run.answered.Goals as goal
 
 pub loop-i-init : goal.loop-i-init

@@ -1,11 +1,10 @@
 -- The loop's invariant: as many bytes of the FIFO as passed stand in their places, and the length is as it was.
-use Prim.Native.Nat.{◌-◌}
-use mathlib.Core.Path.{◌≡◌, refl, sym, ◌∙◌}
+use mathlib.Core.Path.{refl, sym, ◌∙◌}
 use native.Mathlib.Omega.{arith}
-use lib.ListN.{length, drop, length-set}
+use lib.ListN.{length-set}
 use lib.Seq.{get_or-drop}
 use Rattle.image.specs.Layout.{host_bytes_place}
-use Rattle.image.proofs.Pastes.{Pasted, begun, again, ended}
+use Rattle.image.proofs.Pastes.{begun, again, ended}
 use Rattle.strings.proofs.Oldest.{oldest_there, oldest_pasted}
 use Rattle.strings.proofs.blocks.host_copied.Goals as goal
 

@@ -1,10 +1,9 @@
 -- The loop's invariant: as many bytes of the run as passed stand in their places.
-use Prim.Native.Nat.{◌-◌}
 use mathlib.Core.Path.{refl, sym}
 use native.Mathlib.Omega.{arith}
-use lib.ListN.{drop, length-drop}
+use lib.ListN.{length-drop}
 use lib.Seq.{get_or-drop}
-use Rattle.image.proofs.Pastes.{Pasted, begun, again, ended}
+use Rattle.image.proofs.Pastes.{begun, again, ended}
 use Rattle.strings.proofs.blocks.laid_at.Goals as goal
 
 pub loop-i-preserved : goal.loop-i-preserved

@@ -1,10 +1,9 @@
 use borrow.Author.Rules.{rules}
 -- The loop's invariant: as many of the bytes sent as passed stand in their places, and the length is as it was.
-use Prim.Native.Nat.{◌-◌}
-use mathlib.Core.Path.{◌≡◌, refl, sym, ◌∙◌}
+use mathlib.Core.Path.{◌≡◌, refl}
 use native.Mathlib.Omega.{arith}
-use lib.ListN.{length, length-map, length-set}
-use Rattle.image.proofs.Pastes.{Pasted, begun, again, ended}
+use lib.ListN.{length, length-set}
+use Rattle.image.proofs.Pastes.{begun, again, ended}
 use Rattle.strings.proofs.blocks.sent_stored.Goals as goal
 use Rattle.strings.proofs.blocks.sent_stored.Goals.{Start}
 

@@ -1,9 +1,7 @@
 -- The loop's invariant: as many of the bytes sent as passed stand in their places, and the length is as it was.
-use Prim.Native.Nat.{◌-◌}
-use mathlib.Core.Path.{◌≡◌, refl, sym, ◌∙◌}
-use native.Mathlib.Omega.{arith}
-use lib.ListN.{length, length-map, length-set}
-use Rattle.image.proofs.Pastes.{Pasted, begun, again, ended}
+use mathlib.Core.Path.{◌≡◌}
+use lib.ListN.{length}
+use Rattle.image.proofs.Pastes.{Pasted}
 use Rattle.strings.proofs.blocks.sent_stored.Given as goal
 
 abbrev pub invariant-loop-i : goal.invariant-loop-i

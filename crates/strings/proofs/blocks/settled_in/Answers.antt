@@ -2,7 +2,6 @@ use Prim.Native.Nat.{ℕ, ◌≤◌, min}
 use mathlib.Core.Path.{◌≡◌, sym, ap, ◌∙◌}
 use native.Mathlib.Omega.{arith}
 use lib.ListN.{length}
-use borrow.Author.Rules.{rules}
 use Rattle.image.specs.Image.{state_at}
 use Rattle.settling.proofs.Carries.{host_held}
 use Rattle.settling.proofs.ReadBackOfTransfer.{offset_held}

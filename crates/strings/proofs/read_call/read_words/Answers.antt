@@ -2,8 +2,6 @@
 use mathlib.Core.Path.{◌≡◌, sym, ◌∙◌}
 use mathlib.Core.Bool.{true}
 use lib.ListN.{length}
-use borrow.Author.Rules.{rules}
-use borrow.Author.Tests.{not-true, not-false}
 use Rattle.words.specs.Calls.{readable}
 use Rattle.strings.proofs.Fits.{readable_length}
 use Rattle.strings.proofs.ByValue.{entered_tidy}

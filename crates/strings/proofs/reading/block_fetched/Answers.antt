@@ -2,7 +2,6 @@ use Prim.Native.Nat.{ℕ, ◌≤◌}
 use mathlib.Core.List.{List}
 use native.Mathlib.Omega.{arith}
 use lib.ListN.{length, drop, length-drop}
-use borrow.Author.Rules.{rules}
 use Rattle.rules.specs.Ranges.{Bytes}
 use Rattle.rules.proofs.Ranges.{bytes_drop}
 use Rattle.image.specs.Image.{IsImage, state_at}

@@ -1,15 +1,8 @@
 -- The loop's invariant: what the words left continued before the loop, they continue now.
-use Prim.Native.Nat.{ℕ, ◌-◌, ◌*◌, ◌/◌, ◌^◌, ◌<◌}
-use mathlib.Core.Path.{ap}
-use mathlib.Core.Bool.{true}
-use mathlib.Core.Logic.{⊎_elim}
+use Prim.Native.Nat.{ℕ, ◌-◌}
 use mathlib.Core.List.{List}
-use native.Mathlib.Omega.{arith}
-use borrow.Author.Rules.{rules}
-use Rattle.image.specs.Image.{state_at}
-use Rattle.words.specs.Words.{Strung, strung, word_reads}
-use Rattle.strings.proofs.Going.{Turn, no_words, turned}
-use Rattle.strings.proofs.Fetching.{ReadRound, read_stops, read_begun, enough, there, next_read, all_read, no_bytes_lem}
+use Rattle.words.specs.Words.{Strung}
+use Rattle.strings.proofs.Fetching.{ReadRound}
 use Rattle.strings.proofs.reading.fetched_over.Given as goal
 
 abbrev pub invariant-loop-done : goal.invariant-loop-done

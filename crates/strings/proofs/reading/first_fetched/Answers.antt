@@ -1,5 +1,4 @@
 use mathlib.Core.Path.{refl, sym, ◌∙◌}
-use borrow.Author.Rules.{rules}
 use Rattle.strings.proofs.First.{word_refused}
 use Rattle.strings.proofs.Fetching.{word_read_lem, first_read}
 use Rattle.strings.proofs.reading.first_fetched.Goals as goal

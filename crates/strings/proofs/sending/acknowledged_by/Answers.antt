@@ -1,7 +1,6 @@
 use Prim.Native.Nat.{ℕ, ◌-◌}
 use mathlib.Core.Path.{refl, ap}
 use native.Mathlib.Omega.{arith}
-use borrow.Author.Rules.{rules}
 use Rattle.settling.proofs.ReadBackOfTransfer.{offset_held}
 use Rattle.strings.proofs.Through.{low_held, acked}
 use Rattle.strings.proofs.sending.acknowledged_by.Goals as goal

@@ -3,7 +3,6 @@ use mathlib.Core.Path.{◌≡◌, ap, ◌∙◌}
 use mathlib.Core.Bool.{true}
 use native.Mathlib.Omega.{arith}
 use lib.ListN.{length, drop}
-use borrow.Author.Rules.{rules}
 use Rattle.rules.specs.Changed.{with_transfer, transfer_with_host}
 use Rattle.image.specs.Image.{image_of, state_at}
 use Rattle.settling.specs.Blocks.{carried}

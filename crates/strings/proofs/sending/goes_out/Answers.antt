@@ -1,7 +1,6 @@
 use mathlib.Core.Path.{sym, ap, ◌∙◌}
 use mathlib.Core.Bool.{◌&&◌}
 use native.Mathlib.Omega.{arith}
-use borrow.Author.Rules.{rules}
 use Rattle.rules.proofs.Logic.{never, left_true, right_true}
 use Rattle.rules.specs.declared.chip.Conditions.{Conditions}
 use Rattle.image.specs.Image.{state_at}

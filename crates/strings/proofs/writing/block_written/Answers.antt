@@ -1,4 +1,3 @@
-use borrow.Author.Rules.{rules}
 use Rattle.strings.proofs.Settled.{image_filled, block_filled}
 use Rattle.strings.proofs.writing.block_written.Goals as goal
 

@@ -1,6 +1,5 @@
 use mathlib.Core.Path.{sym, ◌∙◌}
 use native.Mathlib.Omega.{arith}
-use borrow.Author.Rules.{rules}
 use Rattle.rules.specs.Ranges.{Bytes}
 use Rattle.words.proofs.Keeps.{by_elements}
 use Rattle.strings.proofs.First.{word_refused}

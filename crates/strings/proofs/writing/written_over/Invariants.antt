@@ -1,16 +1,8 @@
 -- The loop's invariant: what the words left continued before the loop, they continue now.
-use Prim.Native.Nat.{ℕ, ◌-◌, ◌*◌, ◌^◌, ◌<◌}
-use mathlib.Core.Path.{ap}
-use mathlib.Core.Bool.{false}
+use Prim.Native.Nat.{ℕ, ◌-◌}
 use mathlib.Core.List.{List}
-use native.Mathlib.Omega.{arith}
-use lib.ListN.{length}
-use borrow.Author.Rules.{rules}
-use Rattle.image.specs.Image.{state_at}
-use Rattle.words.specs.Words.{Strung, strung, word_writes}
-use Rattle.strings.proofs.Leaves.{image_strung}
-use Rattle.strings.proofs.Going.{Turn, no_words, turned}
-use Rattle.strings.proofs.WordsWritten.{WriteRound, write_stops, write_begun, block_room, block_few, block_stores, image_after, next_written, all_written}
+use Rattle.words.specs.Words.{Strung}
+use Rattle.strings.proofs.WordsWritten.{WriteRound}
 use Rattle.strings.proofs.writing.written_over.Given as goal
 
 abbrev pub invariant-loop-done : goal.invariant-loop-done

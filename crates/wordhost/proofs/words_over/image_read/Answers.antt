@@ -1,8 +1,6 @@
 use mathlib.Core.Path.{◌≡◌, sym, ◌∙◌, ap}
 use mathlib.Core.Bool.{true}
 use lib.ListN.{length}
-use borrow.Author.Rules.{rules}
-use borrow.Author.Tests.{not-true, not-false}
 use Rattle.saved.proofs.Acceptance.{acceptable_length}
 use Rattle.wordhost.proofs.OverWords.{read_refused, read_image, read_done}
 use Rattle.wordhost.proofs.words_over.image_read.Goals as goal

@@ -1,8 +1,6 @@
 use mathlib.Core.Path.{◌≡◌, sym, ◌∙◌, ap}
 use mathlib.Core.Bool.{true}
 use lib.ListN.{length}
-use borrow.Author.Rules.{rules}
-use borrow.Author.Tests.{not-true, not-false}
 use Rattle.saved.proofs.Acceptance.{acceptable_length}
 use Rattle.wordhost.proofs.OverWords.{write_refused, written_image, write_done}
 use Rattle.wordhost.proofs.words_over.image_written.Goals as goal

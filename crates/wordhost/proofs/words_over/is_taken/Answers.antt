@@ -1,4 +1,3 @@
-use borrow.Author.Rules.{rules}
 use Rattle.wordhost.proofs.OverWords.{not_taken, tested}
 use Rattle.wordhost.proofs.words_over.is_taken.Goals as goal
 

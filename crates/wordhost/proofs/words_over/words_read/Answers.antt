@@ -1,8 +1,6 @@
 use mathlib.Core.Path.{◌≡◌, sym, ◌∙◌}
 use mathlib.Core.Bool.{true}
 use lib.ListN.{length}
-use borrow.Author.Rules.{rules}
-use borrow.Author.Tests.{not-true, not-false}
 use Rattle.words.specs.Calls.{readable}
 use Rattle.strings.proofs.Fits.{readable_length}
 use Rattle.wordhost.proofs.OverWords.{not_read, all_read}

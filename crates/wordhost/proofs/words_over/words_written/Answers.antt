@@ -1,8 +1,6 @@
 use mathlib.Core.Path.{◌≡◌, sym, ◌∙◌}
 use mathlib.Core.Bool.{true}
 use lib.ListN.{length}
-use borrow.Author.Rules.{rules}
-use borrow.Author.Tests.{not-true, not-false}
 use Rattle.words.specs.Calls.{writable}
 use Rattle.strings.proofs.Fits.{writable_length, writable_room}
 use Rattle.wordhost.proofs.OverWords.{not_written_lem, all_written}

@@ -1,4 +1,3 @@
-use borrow.Author.Rules.{rules}
 use mathlib.Core.Path.{ap, sym, ◌∙◌}
 use Rattle.image.specs.Image.{state_at}
 use Rattle.writes.specs.SequencerWritten.{gave_up}

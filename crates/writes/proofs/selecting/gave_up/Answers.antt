@@ -1,4 +1,3 @@
-use borrow.Author.Rules.{rules}
 use Rattle.writes.proofs.selecting.gave_up.Goals as goal
 
 pub returns : goal.returns

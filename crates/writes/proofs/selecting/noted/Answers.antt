@@ -1,4 +1,3 @@
-use borrow.Author.Rules.{rules}
 use borrow.Author.Tests.{ne_eqb}
 use Rattle.rules.specs.Events.{writes, value_of}
 use Rattle.rules.specs.StepA.{clears_latch, noted_a}

@@ -1,4 +1,3 @@
-use borrow.Author.Rules.{rules}
 use mathlib.Core.Path.{◌∙◌}
 use Rattle.rules.specs.Map.{offset_of}
 use Rattle.rules.specs.declared.map.Mapped.TheVariants.{Present}

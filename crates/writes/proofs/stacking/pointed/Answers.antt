@@ -1,4 +1,3 @@
-use borrow.Author.Rules.{rules}
 use Rattle.writes.proofs.StackStores.{pointed_image}
 use Rattle.writes.proofs.stacking.pointed.Goals as goal
 

@@ -1,4 +1,3 @@
-use borrow.Author.Rules.{rules}
 use Rattle.writes.proofs.StackStores.{popped_image}
 use Rattle.writes.proofs.stacking.popped.Goals as goal
 

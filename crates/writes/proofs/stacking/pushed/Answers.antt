@@ -1,5 +1,4 @@
 use native.Mathlib.Omega.{arith}
-use borrow.Author.Rules.{rules}
 use Rattle.stack.proofs.Places.{place_below}
 use Rattle.writes.proofs.StackStores.{pushed_image}
 use Rattle.writes.proofs.stacking.pushed.Goals as goal

@@ -1,6 +1,5 @@
 use mathlib.Core.Path.{ap, ◌∙◌}
 use mathlib.Core.Bool.{not, ◌&&◌}
-use borrow.Author.Rules.{rules}
 use Rattle.rules.specs.Numbers.{bit}
 use Rattle.rules.specs.StepA.{with_atn}
 use Rattle.rules.specs.declared.registers.Scsisig.{Scsisig}
