@@ -1,4 +1,4 @@
-// The exported functions for a host program: the chip is handed over as the bytes of its image.
+// The functions for a host program, exported by `host_c`: the chip is handed over as the bytes of its image.
 #![tactic(auto)]
 
 ghost use Rattle.host.specs.ImageCalls.{IsImageCall, IsImageRun};
@@ -15,8 +15,7 @@ mod over;
 mod refusing;
 
 // One record: its code; the new image in place of the old. A slice is no array, so the image is stepped in a copy.
-#[unsafe(no_mangle)]
-pub extern "C" fn rabenteig_step(image: &mut [u8], bytes: &[u8], answer: &mut [u8]) -> u8
+pub fn rabenteig_step(image: &mut [u8], bytes: &[u8], answer: &mut [u8]) -> u8
     ensures { IsImageCall image.old bytes.now answer.old image.new answer.new result }
 {
     if image.len() != SIZE {
@@ -34,8 +33,7 @@ pub extern "C" fn rabenteig_step(image: &mut [u8], bytes: &[u8], answer: &mut [u
 }
 
 // The records one after another, the image tested once; their number.
-#[unsafe(no_mangle)]
-pub extern "C" fn rabenteig_run(image: &mut [u8], records: &[u8], answers: &mut [u8]) -> usize
+pub fn rabenteig_run(image: &mut [u8], records: &[u8], answers: &mut [u8]) -> usize
     ensures { IsImageRun image.old records.now answers.old image.new answers.new result }
 {
     if image.len() != SIZE {

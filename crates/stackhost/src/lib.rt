@@ -1,4 +1,4 @@
-// R-4: the exported function for a host program that holds the stack apart from the chip.
+// R-4: the function for a host program that holds the stack apart from the chip, exported by `stackhost_c`.
 #![tactic(auto)]
 
 ghost use Rattle.std.specs.Prelude.{◌≡◌, length};
@@ -90,13 +90,7 @@ pub fn answered(access: Access, stack: &mut [u8], control: &mut [u8], value: &mu
 }
 
 // One access to 35Dh or 353h: the code, 0 or 1. `event` is the record of four bytes; where the code is 1 every buffer is as it was.
-#[unsafe(no_mangle)]
-pub extern "C" fn rabenteig_stack(
-    stack: &mut [u8],
-    control: &mut [u8],
-    event: &[u8],
-    value: &mut [u8],
-) -> u8
+pub fn rabenteig_stack(stack: &mut [u8], control: &mut [u8], event: &[u8], value: &mut [u8]) -> u8
     ensures { stack_call stack.new control.new value.new result ≡ stack_called stack.old control.old event.now value.old }
 {
     let asked = asked_by(wire::decode(event));

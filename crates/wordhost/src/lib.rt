@@ -1,4 +1,4 @@
-// R-3: the exported string calls, in an archive of their own: the run of records of `host` is compiled apart from them.
+// R-3: the string calls, exported by `wordhost_c` in an archive of their own: the run of records of `host` is compiled apart from them.
 #![tactic(auto)]
 
 ghost use Rattle.std.specs.Prelude.{◌≡◌};
@@ -10,8 +10,7 @@ use rules::code_number;
 mod words_over;
 
 // R-3: words written as one call; its code. The sent bytes go to out; done is the number of words done, count that of bytes sent.
-#[unsafe(no_mangle)]
-pub extern "C" fn rabenteig_write_words(
+pub fn rabenteig_write_words(
     image: &mut [u8],
     bytes: &[u8],
     words: usize,
@@ -29,13 +28,7 @@ pub extern "C" fn rabenteig_write_words(
 }
 
 // R-3: words read as one call to out; its code. done is the number of words done.
-#[unsafe(no_mangle)]
-pub extern "C" fn rabenteig_read_words(
-    image: &mut [u8],
-    out: &mut [u8],
-    words: usize,
-    done: &mut usize,
-) -> u8
+pub fn rabenteig_read_words(image: &mut [u8], out: &mut [u8], words: usize, done: &mut usize) -> u8
     ensures { LeftFetch (image_fetched image.old words out.old) image.new done.new out.new result }
 {
     let r = image_read(image, words, out);
