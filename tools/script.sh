@@ -40,22 +40,30 @@ kit_home() {
     if [ -n "${RATTLE_HOME:-}" ]; then
         (CDPATH='' cd "$RATTLE_HOME" 2> /dev/null && pwd) || printf '%s\n' "$RATTLE_HOME"
     else
-        guide=$(rt doc) && dirname "$(dirname "$guide")"
+        guide=$(rt doc) && dirname "$guide"
     fi
 }
 
-# Runs a command of `rt`, says each crate as it is proved, and stops with the whole log if one is not.
+# Runs a command of `rt`, says each crate as its turn comes, and stops with the whole log if one is not proved.
 proving() { # LOG WORDS..
     log=$1
     shift
     mkdir -p "$(dirname "$log")"
     rm -f "$log.passed"
-    { "$@" 2>&1 && : > "$log.passed"; } | tee "$log" | sed -un 's/^rt: \(.* proved ([0-9].*\)$/  \1/p'
+    { "$@" 2>&1 && : > "$log.passed"; } | tee "$log" | sed -un 's/^rt: chose --jobs [0-9]* for \(.*\)$/  proving \1/p'
     if [ ! -e "$log.passed" ]; then
         cat "$log" >&2
         echo "$name: not everything was proved; the lines above are its log" >&2
         exit 1
     fi
+}
+
+# Proves and builds a program: crates/NAME/out/NAME. The run that this takes is on no input.
+built() { # LOG NAME
+    proving "$1" once "$2"
+}
+once() { # NAME
+    (cd "$root/crates/$1" && rt run < /dev/null)
 }
 
 # A script that is stopped still removes what it made for the time being.
