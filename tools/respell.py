@@ -30,7 +30,6 @@ APART = {
     "as-asked": "as_asked_lem",
     "beyond-since": "beyond_since_lem",
     "both-full": "both_full_lem",
-    "by-step": "by_step_lem",
     "call-done": "call_done_lem",
     "call-refused": "call_refused_lem",
     "calm-in": "calm_in_lem",

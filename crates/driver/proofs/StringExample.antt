@@ -23,7 +23,7 @@ use Rattle.driver.specs.Exchanges.{Exchange, counter_of, taken_of, over}
 use Rattle.driver.specs.Driving.{Round, Keeps, Goes, exchanges_of}
 use Rattle.driver.specs.DemandThree.{DemandThree, CutRead, state_after}
 use Rattle.driver.specs.ImageChains.{HostCall, exchange_over}
-use Rattle.driver.specs.Strings.{Deed, by_step_lem, by_write, by_read, handed_in, left_by, IsDeed, DeedChain, last_left, exchanges_of_deeds, taken_by, offered_by, accepted_by, read_by, over_deeds, DeedsOffer, deed_may_come, all_deeds}
+use Rattle.driver.specs.Strings.{Deed, by_step, by_write, by_read, handed_in, left_by, IsDeed, DeedChain, last_left, exchanges_of_deeds, taken_by, offered_by, accepted_by, read_by, over_deeds, DeedsOffer, deed_may_come, all_deeds}
 use Rattle.driver.proofs.Images.{call_on, call_on_made}
 use Rattle.driver.proofs.ImageExample.{calls, zeros_bytes, zeros_accepted}
 use Rattle.driver.proofs.Strings.{demand_three_of_deeds, taken_in_hand_lem, deeds_go, deeds_acceptable, deeds_state, exchanges_append, chain_join}
@@ -41,7 +41,7 @@ pub data Wish : Type 0 where
 
 -- the deed on an image, as the contract says; each buffer is lent with zeros
 abbrev pub deed_on : Wish → List ℕ → Deed
-deed_on (hand bytes) image = by_step_lem (call_on image bytes (replicate 16 0))
+deed_on (hand bytes) image = by_step (call_on image bytes (replicate 16 0))
 deed_on (write words bytes b) image =
     let r : ImageWrite = image_written image bytes words (replicate (8 * words) 0) in
     by_write
@@ -94,7 +94,7 @@ hands (bytes ∷ more) = hand bytes ∷ hands more
 -- what the string calls report: the words done, the bytes sent, the code
 abbrev pub reports : List Deed → List ℕ
 reports [] = []
-reports (by_step_lem k ∷ more) = reports more
+reports (by_step k ∷ more) = reports more
 reports (by_write k ∷ more) = k.done ∷ k.count ∷ k.code ∷ reports more
 reports (by_read k ∷ more) = k.done ∷ k.code ∷ reports more
 
@@ -130,7 +130,7 @@ unfoldable pub reading : List Deed
 reading = deeds_from cut.left reads
 
 abbrev pub whole : List Deed
-whole = started ++ (run ++ by_step_lem cut ∷ reading)
+whole = started ++ (run ++ by_step cut ∷ reading)
 
 unfoldable pub written : ℕ
 unfolding strings started ready run cut reading
@@ -196,8 +196,8 @@ run_takes = taken_in_hand_lem ready run ready_acceptable run_chain ready_starts 
 whole_chain : DeedChain zeros whole
 unfolding ready cut reading
 whole_chain =
-    chain_join zeros started (run ++ by_step_lem cut ∷ reading) started_chain
-    (chain_join ready run (by_step_lem cut ∷ reading) run_chain
+    chain_join zeros started (run ++ by_step cut ∷ reading) started_chain
+    (chain_join ready run (by_step cut ∷ reading) run_chain
     (refl, (call_on_made (last_left ready run) (bytes_of 4 0x21000060) (replicate 16 0), deeds_chain cut.left reads)))
 
 pub whole_claimed : DemandThree (state_at zeros) (exchanges_of_deeds whole)
@@ -213,9 +213,9 @@ round_keeps =
 
 round_part : exchanges_of_deeds whole ≡ exchanges_of_deeds started ++ (exchanges_of round ++ [])
 round_part =
-    exchanges_append started (run ++ by_step_lem cut ∷ reading)
+    exchanges_append started (run ++ by_step cut ∷ reading)
     ∙ ap (λ (l : List Exchange). exchanges_of_deeds started ++ l)
-    (exchanges_append run (by_step_lem cut ∷ reading) ∙ sym (append-nil (exchanges_of round)))
+    (exchanges_append run (by_step cut ∷ reading) ∙ sym (append-nil (exchanges_of round)))
 
 starts_there : Starts true (state_after (state_at zeros) (exchanges_of_deeds started))
 unfolding ready

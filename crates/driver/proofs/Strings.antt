@@ -27,7 +27,7 @@ use Rattle.driver.specs.Driving.{Offers, Goes}
 use Rattle.driver.specs.Calls.{Trace}
 use Rattle.driver.specs.DemandThree.{DemandThree}
 use Rattle.driver.specs.ImageChains.{exchange_over}
-use Rattle.driver.specs.Strings.{Deed, by_step_lem, by_write, by_read, handed_in, left_by, IsDeed, DeedChain, last_left, answered_from, exchanges_by, exchanges_of_deeds, taken_by, offered_by, accepted_by, read_by, over_deeds, DeedsOffer, deed_may_come, all_deeds, WriteInHand, ReadInHand}
+use Rattle.driver.specs.Strings.{Deed, by_step, by_write, by_read, handed_in, left_by, IsDeed, DeedChain, last_left, answered_from, exchanges_by, exchanges_of_deeds, taken_by, offered_by, accepted_by, read_by, over_deeds, DeedsOffer, deed_may_come, all_deeds, WriteInHand, ReadInHand}
 use Rattle.driver.proofs.Traces.{handed_append, over_append, ranged_step, ranged_after, comes_along, taken_along}
 use Rattle.driver.proofs.Images.{image_ranged, image_steps}
 use Rattle.driver.proofs.StringWords.{answered_handed, answered_trace, answered_accepts, answered_reads, answered_comes, writes_come, writes_accept, writes_hand_none, reads_come, reads_accept_none, none_in_write_run, reads_hand, writes_offer, reads_offer}
@@ -85,7 +85,7 @@ pub record Stands (d : Deed) : Type 0 where
       over taken_of (exchanges_by d) ≡ taken_by d
 
 pub stands : (d : Deed) → Acceptable (handed_in d) → IsDeed d → Stands d
-stands (by_step_lem k) a made =
+stands (by_step k) a made =
     let x = exchange_over k in
     record {
       trace = ((image_steps k a made).answered, tt);
@@ -144,7 +144,7 @@ stands (by_read k) a made =
 deed_offers :
     (d : Deed) → Acceptable (handed_in d) → IsDeed d → (rest : List ℕ) → take (length (offered_by d)) rest ≡ offered_by d →
     Offers rest (exchanges_by d)
-deed_offers (by_step_lem k) a made rest h = (h, tt)
+deed_offers (by_step k) a made rest h = (h, tt)
 deed_offers (by_write k) a made rest h =
     let s = state_at k.image in
     let records = word_writes k.words k.bytes in

@@ -46,23 +46,23 @@ IsFetched k = LeftFetch (image_fetched k.image k.words k.before) k.left k.done k
 
 -- A DEED OF THE HOST: a call of the step, a write call, or a read call
 pub data Deed : Type 0 where
-  by_step_lem : HostCall → Deed
+  by_step : HostCall → Deed
   by_write : WriteCall → Deed
   by_read : ReadCall → Deed
 
 abbrev pub handed_in : Deed → List ℕ
-handed_in (by_step_lem k) = k.image
+handed_in (by_step k) = k.image
 handed_in (by_write k) = k.image
 handed_in (by_read k) = k.image
 
 abbrev pub left_by : Deed → List ℕ
-left_by (by_step_lem k) = k.left
+left_by (by_step k) = k.left
 left_by (by_write k) = k.left
 left_by (by_read k) = k.left
 
 -- it is made as said; what C lends are bytes
 abbrev pub IsDeed : Deed → Type 0
-IsDeed (by_step_lem k) = IsMade k
+IsDeed (by_step k) = IsMade k
 IsDeed (by_write k) = Bytes k.bytes × IsWritten k
 IsDeed (by_read k) = IsFetched k
 
@@ -82,7 +82,7 @@ answered_from s (bytes ∷ more) = record { bytes = bytes; buffer = answer s byt
 
 -- of a string call the words that it did; "The refused word itself changes nothing and is not done"
 abbrev pub exchanges_by : Deed → List Exchange
-exchanges_by (by_step_lem k) = exchange_over k ∷ []
+exchanges_by (by_step k) = exchange_over k ∷ []
 exchanges_by (by_write k) = answered_from (state_at k.image) (take k.done (word_writes k.words k.bytes))
 exchanges_by (by_read k) = answered_from (state_at k.image) (take k.done (word_reads k.words))
 
@@ -92,24 +92,24 @@ exchanges_of_deeds (d ∷ more) = exchanges_by d ++ exchanges_of_deeds more
 
 -- WHAT THE HOST HAS IN ITS HANDS OF THEM: in a write run the bytes taken, the first so many of the buffer for the bytes sent
 abbrev pub taken_by : Deed → List ℕ
-taken_by (by_step_lem k) = taken_of (exchange_over k)
+taken_by (by_step k) = taken_of (exchange_over k)
 taken_by (by_write k) = take k.count k.buffer
 taken_by (by_read k) = []
 
 -- the bytes that it offers, and those of the words done
 abbrev pub offered_by : Deed → List ℕ
-offered_by (by_step_lem k) = offered_of (exchange_over k)
+offered_by (by_step k) = offered_of (exchange_over k)
 offered_by (by_write k) = k.bytes
 offered_by (by_read k) = []
 
 abbrev pub accepted_by : Deed → List ℕ
-accepted_by (by_step_lem k) = accepted_of (exchange_over k)
+accepted_by (by_step k) = accepted_of (exchange_over k)
 accepted_by (by_write k) = take (2 * k.done) k.bytes
 accepted_by (by_read k) = []
 
 -- the bytes that the chip handed to it
 abbrev pub read_by : Deed → List ℕ
-read_by (by_step_lem k) = read_of (exchange_over k)
+read_by (by_step k) = read_of (exchange_over k)
 read_by (by_write k) = []
 read_by (by_read k) = take (2 * k.done) k.buffer
 
@@ -124,7 +124,7 @@ DeedsOffer rest (d ∷ more) = (take (length (offered_by d)) rest ≡ offered_by
 
 -- a string call may come in every run
 abbrev pub deed_may_come : (Event → Bool) → Deed → Bool
-deed_may_come allows (by_step_lem k) = may_come allows (exchange_over k)
+deed_may_come allows (by_step k) = may_come allows (exchange_over k)
 deed_may_come allows (by_write k) = true
 deed_may_come allows (by_read k) = true
 

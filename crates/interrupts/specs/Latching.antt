@@ -1,4 +1,4 @@
--- The latches after D over just the registers that they look at, 350h and 351h: `latchesD` of crates/rules/specs/StepD.antt
+-- The latches after D over just the registers that they look at, 350h and 351h: `latches_d` of crates/rules/specs/StepD.antt
 -- (proofs/Steady.antt).
 use Rattle.std.specs.Prelude.{Bool, ◌||◌}
 use Rattle.rules.specs.Interrupts.{latched}

@@ -14,9 +14,9 @@ pub mod FewLines  -- few_lines, data_lines, req_falls_lem: a line event without 
 pub mod ReadyMoves  -- ready_lines, ready_ack: how the answer moves
 pub mod ReadyWrites  -- ready_stored: a write that stores and no more leaves the answer
 pub mod Rises  -- plain_rise_lem: a line event in which REQ rises and no handshake follows
-pub mod OneByte  -- one-out, one_in_synchronous, one_in_asynchronous: settling of one REQ
+pub mod OneByte  -- one_out, one_in_synchronous, one_in_asynchronous: settling of one REQ
 pub mod ByteRises  -- synchronous_out, synchronous_in, asynchronous_out, asynchronous_in: a line event with such a REQ
-pub mod Port  -- word-kept, word_queued, word_passed, word_taken: a word through the port
+pub mod Port  -- word_kept, word_queued, word_passed, word_taken: a word through the port
 pub mod Turns  -- changes_next: a tick by which the phase changes
 pub mod Phases  -- the changes of phase in a selection
 pub mod LineRecord  -- record_small, record_high, lines_back: the record of the present lines

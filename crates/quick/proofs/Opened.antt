@@ -1,4 +1,4 @@
--- Opening the definitions in groups: `unfolding ownEffect` lets A compute, `unfolding looksAt` what B, C and D look at.
+-- Opening the definitions in groups: `unfolding own_effect` lets A compute, `unfolding looks_at` what B, C and D look at.
 use Prim.Native.Nat.{ℕ}
 use Rattle.rules.specs.Seen.{ack_driven, ack_seen, automatic, bsy_seen, connected, manual, matched, mismatched, normal, path, rst_seen, sel_seen, synchronous}
 use Rattle.rules.specs.Map.{read_at, written_at}

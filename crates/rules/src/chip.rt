@@ -56,7 +56,7 @@ pub struct Stack {
     pub pointer: u8,
 }
 
-// R-1: where the sequencer stands; `phaseNumber` in specs/Seen.antt gives each its number.
+// R-1: where the sequencer stands; `phase_number` in specs/Seen.antt gives each its number.
 #[derive(Clone, Copy)]
 pub enum Phase {
     Idle,

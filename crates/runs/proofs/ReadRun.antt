@@ -137,7 +137,7 @@ module _ (s : State) (a b : List ℕ) (i : ReadMoment s a b) where
 start_moment : (s : State) → Starts false s → ReadMoment s [] []
 start_moment s h = record { held = held_at_start false s h; order = rw (h.scsi, h.host) }
 
--- THE READ RUN: whatever has come since the start, bus resets and bus free among it, and so at every moment (earlier-comes)
+-- THE READ RUN: whatever has come since the start, bus resets and bus free among it, and so at every moment (earlier_comes)
 pub read_run_lem : (s : State) (records : List (List ℕ)) → Starts false s → all_come run_allows s records ≡ true → ReadMoment (after s records) (along chip_took s records) (along host_read s records)
 read_run_lem s records h q = along_law run_allows ReadMoment chip_took host_read step_moment s records [] [] (start_moment s h) q
 

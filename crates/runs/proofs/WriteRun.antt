@@ -102,6 +102,6 @@ start_moment s h =
     record { held = held_at_start true s h; order = rw (h.scsi, h.host); count = h.counter; room = rw h.host (omega arith) }
 
 -- THE WRITE RUN: whatever has come since the start, bus resets and bus free among it. It holds at every moment, since the records up
--- to any moment are such a list too (earlier-comes)
+-- to any moment are such a list too (earlier_comes)
 pub write_run : (s : State) (records : List (List ℕ)) → Starts true s → all_come run_allows s records ≡ true → WriteMoment (after s records) (along accepted s records) (along sent_by s records)
 write_run s records h q = along_law run_allows WriteMoment accepted sent_by step_moment s records [] [] (start_moment s h) q

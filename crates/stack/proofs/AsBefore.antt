@@ -1,5 +1,5 @@
 -- "READS AND WRITES OF 35Dh AND 353h ANSWER AS BEFORE": the step of an access is an event of 0 ticks, but for the stack, the bits of 353h
--- and the value, and these are what `stackAccessed` leaves and gives.
+-- and the value, and these are what `stack_accessed` leaves and gives.
 use Prim.Native.Nat.{ℕ, ◌+◌, ◌%◌, ◌<◌, ◌≤◌}
 use mathlib.Core.Path.{◌≡◌, refl, ap, sym, subst, ◌∙◌}
 use mathlib.Core.Bool.{cond}
