@@ -8,6 +8,7 @@ use rules::chip::Chip;
 use rules::records::{ANSWER_SIZE, RECORD_SIZE};
 use std::env::{Env, FillError};
 use std::io::{ErrorKind, IsTerminal, Read};
+use std::process::ExitCode;
 
 // One read of 4,096 bytes behind a piece of a record: 1,025 records, their answers and their lines.
 const INPUT_SIZE: usize = 4100;
@@ -160,13 +161,14 @@ fn one_read(
     }
 }
 
-// The records of the standard input from power reset on, read by read.
-fn answer_all(rt: &HostRuntime) {
+// The records of the standard input from power reset on, read by read; whether all lines of them were written.
+fn answer_all(rt: &HostRuntime) -> bool {
     let mut chip = step::reset::power_reset();
     let mut left = [0u8; RECORD_SIZE];
     let mut kept = 0usize;
     let mut turns = u64::MAX;
     let mut more = true;
+    let mut is_written = true;
     let mut input = [0u8; INPUT_SIZE];
     let mut answers = [0u8; ANSWERS_SIZE];
     let mut text = [0u8; TEXT_SIZE];
@@ -176,8 +178,10 @@ fn answer_all(rt: &HostRuntime) {
         left = t.left;
         kept = t.kept;
         more = t.more;
+        is_written = t.is_written;
         turns -= 1;
     }
+    is_written
 }
 
 // One line for whoever started the program with an argument, or with a terminal as its input.
@@ -193,13 +197,18 @@ fn has_argument(rt: &HostRuntime) -> bool {
     !matches!(rt.arg(1, &mut first), Err(FillError::NotPresent))
 }
 
-fn main(rt: HostRuntime) {
+// A closed pipe gets no message, so the status says that lines are missing.
+fn main(rt: HostRuntime) -> ExitCode {
     if has_argument(&rt) {
         say_what_is_read(&rt);
-        return;
+        return ExitCode::SUCCESS;
     }
     if rt.stdin().is_terminal() {
         say_what_is_read(&rt);
     }
-    answer_all(&rt);
+    if answer_all(&rt) {
+        ExitCode::SUCCESS
+    } else {
+        ExitCode::FAILURE
+    }
 }
