@@ -26,7 +26,7 @@ pub fn counter_step(direction: Direction, n: u32) -> CounterStep
 {
     let value = stepped_to(direction, n);
     CounterStep {
-        value: value,
+        value,
         passed: value == 0,
     }
 }

@@ -1,82 +1,70 @@
--- Bytes with their count, in a FIFO or in what was sent: each law once, over the type.
+-- Bytes with their count, in a FIFO or in what was sent: each law once, over the number of places.
 use Prim.Native.Nat.{ℕ, ◌+◌, ◌-◌, ◌<◌, ◌≤◌, min}
 use mathlib.Core.Path.{◌≡◌, refl, ap, ◌∙◌}
 use mathlib.Core.List.{List, [], ◌∷◌, ◌++◌}
 use native.Mathlib.Omega.{arith}
 use lib.ListN.{length, take, drop, set, replicate, length-append}
 use Rattle.rules.specs.Numbers.{padded}
-use Rattle.rules.specs.declared.chip.HostFifo.{HostFifo}
-use Rattle.rules.specs.declared.chip.ScsiFifo.{ScsiFifo}
-use Rattle.fifos.specs.declared.sent.Sent.{Sent}
-use Rattle.fifos.specs.Fifos.{sent_of}
+use Rattle.rules.specs.Chips.{fifo_of, fifo_view}
+use Rattle.rules.specs.declared.chip.Fifo.{Fifo}
+use Rattle.fifos.specs.Fifos.{sent_of, FifoTidy}
 use Rattle.laws.proofs.Lists as lists
-use Rattle.fifos.proofs.Copied.{zeros}
+use borrow.Rule.Slice.PartMut.{put_mid}
+use Rattle.fifos.proofs.Copied.{zeros, joined_padded}
 
--- a type whose values keep bytes with their count, and its number of places
-pub record Counted (F : Type 0) : Type 0 where
-  pub places : ℕ
-  pub bytes : F → List ℕ
-  pub count : F → ℕ
-  pub make : List ℕ → ℕ → F
-  pub make_bytes : (b : List ℕ) (n : ℕ) → bytes (make b n) ≡ b
-  pub make_count : (b : List ℕ) (n : ℕ) → count (make b n) ≡ n
+module _ {places : ℕ} where
+  abbrev made : List ℕ → ℕ → Fifo places
+  made b n = record { bytes = b; count = n }
 
-abbrev pub host_fifo : Counted HostFifo
-host_fifo = record { places = 128; bytes = λ f. f.bytes; count = λ f. f.count; make = λ b n. record { bytes = b; count = n }; make_bytes = λ b n. refl; make_count = λ b n. refl }
-
-abbrev pub scsi_fifo : Counted ScsiFifo
-scsi_fifo = record { places = 8; bytes = λ f. f.bytes; count = λ f. f.count; make = λ b n. record { bytes = b; count = n }; make_bytes = λ b n. refl; make_count = λ b n. refl }
-
-abbrev pub bytes_sent : Counted Sent
-bytes_sent = record { places = 8; bytes = λ f. f.bytes; count = λ f. f.count; make = λ b n. record { bytes = b; count = n }; make_bytes = λ b n. refl; make_count = λ b n. refl }
-
-abbrev pub view : {F : Type 0} → Counted F → F → List ℕ
-view t f = take (t.count f) (t.bytes f)
-
--- the one form of a list
-abbrev pub form : {F : Type 0} → Counted F → List ℕ → F
-form t l = t.make (padded t.places l) (length l)
-
-abbrev pub Tidy : {F : Type 0} → Counted F → F → Type 0
-Tidy t f = f ≡ form t (view t f)
-
-module _ {F : Type 0} (t : Counted F) where
   -- a value is known by its bytes and its count
-  formed : (l : List ℕ) {b : List ℕ} {n : ℕ} → b ≡ padded t.places l → n ≡ length l → t.make b n ≡ form t l
+  formed : (l : List ℕ) {b : List ℕ} {n : ℕ} → b ≡ padded places l → n ≡ length l → made b n ≡ fifo_of places l
   formed l p q = cc
 
-  pub empty : t.make (replicate t.places 0) 0 ≡ form t []
-  empty = formed [] (zeros t.places) refl
+  pub empty_form : made (replicate places 0) 0 ≡ fifo_of places []
+  empty_form = formed [] (zeros places) refl
 
-  count_of : (f : F) (l : List ℕ) → f ≡ form t l → t.count f ≡ length l
-  count_of = lists.count_of F t.places t.bytes t.count (form t) (λ l. t.make_bytes _ _) (λ l. t.make_count _ _)
+  pub count_of : (f : Fifo places) (l : List ℕ) → f ≡ fifo_of places l → f.count ≡ length l
+  count_of f l e = ap (λ (x : Fifo places). x.count) e
 
-  bytes_of : (f : F) (l : List ℕ) → f ≡ form t l → t.bytes f ≡ padded t.places l
-  bytes_of = lists.bytes_of F t.places t.bytes t.count (form t) (λ l. t.make_bytes _ _) (λ l. t.make_count _ _)
+  pub bytes_of : (f : Fifo places) (l : List ℕ) → f ≡ fifo_of places l → f.bytes ≡ padded places l
+  bytes_of f l e = ap (λ (x : Fifo places). x.bytes) e
 
-  module _ (f : F) where
+  module _ (f : Fifo places) where
     -- any count, of which m can be there
-    module _ (m k : ℕ) (e : length (t.bytes f) ≡ t.places) (p : m ≡ min (t.count f) t.places) where
-      pub popped_all : m < k → form t [] ≡ form t (drop k (view t f))
-      popped_all h = ap (form t) (lists.dropped_all t.places (t.count f) m (t.bytes f) e p k h)
+    module _ (m k : ℕ) (e : length f.bytes ≡ places) (p : m ≡ min f.count places) where
+      pub popped_all : m < k → fifo_of places [] ≡ fifo_of places (drop k (fifo_view f))
+      popped_all h = ap (fifo_of places) (lists.dropped_all places f.count m f.bytes e p k h)
 
-      pub popped : {w : List ℕ} → w ≡ padded t.places (take (m - k) (drop k (t.bytes f))) → k ≤ m → t.make w (m - k) ≡ form t (drop k (view t f))
-      popped q h =
-          let d : take (m - k) (drop k (t.bytes f)) ≡ drop k (view t f) = lists.dropped t.places (t.count f) m (t.bytes f) e p k h in
-          formed (drop k (view t f)) (q ∙ ap (padded t.places) d) (lists.length_dropped t.places (t.count f) m (t.bytes f) e p k)
+      pub popped_form : {w : List ℕ} → w ≡ padded places (take (m - k) (drop k f.bytes)) → k ≤ m → made w (m - k) ≡ fifo_of places (drop k (fifo_view f))
+      popped_form q h =
+          let d : take (m - k) (drop k f.bytes) ≡ drop k (fifo_view f) = lists.dropped places f.count m f.bytes e p k h in
+          formed (drop k (fifo_view f)) (q ∙ ap (padded places) d) (lists.length_dropped places f.count m f.bytes e p k)
 
   -- a value in its one form
-  module _ (f : F) (e : Tidy t f) where
-    held : t.count f ≡ length (view t f)
-    held = count_of f (view t f) e
+  module _ (f : Fifo places) (e : FifoTidy f) where
+    pub held : f.count ≡ length (fifo_view f)
+    held = count_of f (fifo_view f) e
 
-    filled : t.bytes f ≡ padded t.places (view t f)
-    filled = bytes_of f (view t f) e
+    pub filled : f.bytes ≡ padded places (fifo_view f)
+    filled = bytes_of f (fifo_view f) e
 
-    pub pushed : (b : ℕ) → t.count f < t.places → t.make (set (t.bytes f) (t.count f) b) (t.count f + 1) ≡ form t (view t f ++ (b ∷ []))
+    pub pushed : (b : ℕ) → f.count < places → made (set f.bytes f.count b) (f.count + 1) ≡ fifo_of places (fifo_view f ++ (b ∷ []))
     pushed b h =
-        formed (view t f ++ (b ∷ [])) (lists.push_at t.places (t.count f) (t.bytes f) b filled held h) (simp length-append (omega (arith, held)))
+        formed (fifo_view f ++ (b ∷ [])) (lists.push_at places f.count f.bytes b filled held h) (simp length-append (omega (arith, held)))
 
--- at the type that another crate counts
-pub sent_count : (f : Sent) (l : List ℕ) → f ≡ sent_of l → f.count ≡ length l
-sent_count = count_of bytes_sent
+  -- two in their one form, one behind the other
+  pub joined_form :
+      (a b : Fifo places) → FifoTidy a → FifoTidy b → a.count + b.count ≤ places → {ys : List ℕ} → ys ≡ fifo_view b
+      → made (put_mid a.count (a.count + b.count - a.count) a.bytes ys) (a.count + b.count) ≡ fifo_of places (fifo_view a ++ fifo_view b)
+  joined_form a b e d h {ys} y =
+      let p : a.count ≡ length (fifo_view a) = held a e in
+      let q : b.count ≡ length (fifo_view b) = held b d in
+      let all : put_mid (length (fifo_view a)) (a.count + b.count - a.count) (padded places (fifo_view a)) (fifo_view b) ≡ padded places (fifo_view a ++ fifo_view b) =
+      joined_padded places (a.count + b.count - a.count) (fifo_view a) (fifo_view b) (omega arith) (omega arith) in
+      let same : put_mid a.count (a.count + b.count - a.count) a.bytes ys ≡ put_mid (length (fifo_view a)) (a.count + b.count - a.count) (padded places (fifo_view a)) (fifo_view b) =
+      λ i. put_mid (p i) (a.count + b.count - a.count) (filled a e i) (y i) in
+      formed (fifo_view a ++ fifo_view b) (same ∙ all) (simp length-append (omega arith))
+
+-- at the number of places that another crate counts
+pub sent_count : (f : Fifo 8) (l : List ℕ) → f ≡ sent_of l → f.count ≡ length l
+sent_count = count_of

@@ -1,12 +1,11 @@
 -- Bytes in places: laws of padded lists and of their parts, over the number of places.
 use Prim.Native.Nat.{ℕ, zero, suc, ◌+◌, ◌-◌, ◌<◌, ◌≤◌, min}
 use mathlib.Core.Path.{◌≡◌, refl, ap, sym, ◌∙◌}
-use mathlib.Core.List.{List, [], ◌∷◌, ◌++◌, append_assoc, append-nil}
+use mathlib.Core.List.{List, [], ◌∷◌, ◌++◌, append_assoc}
 use native.Mathlib.Omega.{arith}
-use native.Mathlib.Numerals.{add-one}
 use native.Mathlib.Decide.{dec_le}
 use lib.ListN.{length, take, drop, set, get_or, replicate, length-append, length-take, length-drop, length-replicate, replicate-append-replicate, drop_of_length-le}
-use lib.Seq.{set-append_seam, take-append_seam, take-suc, length-take-le, get_or-drop, take_all, take-add, drop_at, drop-append-le}
+use lib.Seq.{set-append_seam, take-append_seam, take-suc, length-take-le, take_all, take-add, drop_at, drop-append-le}
 use Rattle.rules.specs.Numbers.{padded}
 
 -- the places that are left are one and those after it
@@ -22,30 +21,10 @@ pub padded_length : (n : ℕ) (l : List ℕ) → length l ≤ n → length (padd
 unfolding padded
 padded_length n l h = simp (length-append, length-replicate) (omega arith)
 
--- as many bytes as places leave none for zeros
-pub padded_full : (n : ℕ) (l : List ℕ) → length l ≡ n → padded n l ≡ l
-unfolding padded
-padded_full n l e =
-    let z : n - length l ≡ 0 = omega arith in
-    rw z (append-nil l)
-
 -- what stands before the zeros
 pub padded_take : (n : ℕ) (l : List ℕ) → take (length l) (padded n l) ≡ l
 unfolding padded
 padded_take n l = take-append_seam l _
-
--- a turn of a loop that copies s into zeros
-pub padded_copy : (n : ℕ) (s : List ℕ) (i : ℕ) → i < n → i < length s → set (padded n (take i s)) i (get_or s i 0) ≡ padded n (take (i + 1) s)
-padded_copy n s i h k =
-    let e : length (take i s) ≡ i = length-take-le i s (omega arith) in
-    let p : set (padded n (take i s)) (length (take i s)) (get_or s i 0) ≡ padded n (take i s ++ (get_or s i 0 ∷ [])) = padded_push n (take i s) (get_or s i 0) (omega arith) in
-    rw (add-one, take-suc s i 0) (rw e at p)
-
--- a turn of the loop that copies a from a place on into zeros
-pub window_copy : (n : ℕ) (a : List ℕ) (from i : ℕ) (out : List ℕ) → out ≡ padded n (take i (drop from a)) → i < n → from + i < length a → set out i (get_or a (from + i) 0) ≡ padded n (take (i + 1) (drop from a))
-window_copy n a from i out e h k =
-    let d : length (drop from a) ≡ length a - from = length-drop from a in
-    rw (e, ← get_or-drop from a i 0) (padded_copy n (drop from a) i h (omega arith))
 
 -- what is dropped off a part is not in it
 pub drop_take : (k m : ℕ) (l : List ℕ) → k ≤ m → m ≤ length l → drop k (take m l) ≡ take (m - k) (drop k l)
@@ -67,14 +46,6 @@ take_clamped m k n l e p = go (dec_le k m)
 -- the first, where there is one
 pub take_one : (l : List ℕ) → 0 < length l → take 1 l ≡ get_or l 0 0 ∷ []
 take_one l h = take-suc l 0 0 h
-
--- a turn of a loop that copies s behind l, of which m are there
-pub join_copy : (n : ℕ) (l s : List ℕ) (m i : ℕ) (out : List ℕ) → m ≡ length l → out ≡ padded n (l ++ take i s) → m + i < n → i < length s → set out (m + i) (get_or s i 0) ≡ padded n (l ++ take (i + 1) s)
-join_copy n l s m i out q e h k =
-    let t : length (take i s) ≡ i = length-take-le i s (omega arith) in
-    let a : length (l ++ take i s) ≡ m + i = simp length-append (omega arith) in
-    let p : set (padded n (l ++ take i s)) (length (l ++ take i s)) (get_or s i 0) ≡ padded n ((l ++ take i s) ++ (get_or s i 0 ∷ [])) = padded_push n (l ++ take i s) (get_or s i 0) (omega arith) in
-    rw (e, add-one, take-suc s i 0, ← append_assoc) (rw a at p)
 
 -- bytes with a count c, in their one form: what the count shows, then zeros
 module _ (n c : ℕ) (bs : List ℕ) (b : ℕ) (e : bs ≡ padded n (take c bs)) (q : c ≡ length (take c bs)) where

@@ -1,7 +1,7 @@
-// Bits out of a number, eight bits as a byte, the smaller of two; in proofs/ the laws on bits, lists and tables that every crate cites.
+// Bits out of a number, eight bits as a byte; in proofs/ the laws on bits, lists and tables that every crate cites.
 #![tactic(auto)]
 
-ghost use Rattle.std.specs.Prelude.{◌≡◌, min};
+ghost use Rattle.std.specs.Prelude.{◌≡◌};
 ghost use Rattle.rules.specs.Numbers.{bit, byte_of};
 
 // Bit k of a number.
@@ -11,7 +11,7 @@ pub fn bit_of(v: u32, k: u32) -> bool
     if k < 32 { (v >> k) & 1 == 1 } else { false }
 }
 
-// Eight bits as a byte, bit 7 first.
+// Eight bits as a byte, bit 7 first; the definition takes them one by one.
 pub fn byte_of(b7: bool, b6: bool, b5: bool, b4: bool, b3: bool, b2: bool, b1: bool, b0: bool) -> u8
     ensures { result ≡ byte_of b7 b6 b5 b4 b3 b2 b1 b0 }
 {
@@ -23,11 +23,4 @@ pub fn byte_of(b7: bool, b6: bool, b5: bool, b4: bool, b3: bool, b2: bool, b1: b
         | ((b2 as u8) << 2)
         | ((b1 as u8) << 1)
         | (b0 as u8)
-}
-
-// The smaller of two numbers.
-pub fn smaller(a: usize, b: usize) -> usize
-    ensures { result ≡ min a b }
-{
-    if a < b { a } else { b }
 }

@@ -3,59 +3,58 @@
 
 ghost use Rattle.std.specs.Prelude.{◌≡◌, cond};
 ghost use Rattle.rules.specs.Map.{offset_of};
-ghost use Rattle.rules.specs.declared.map.Mapped.TheVariants.{Present};
 ghost use Rattle.map.specs.Directions.{mapped_at};
 
-use rules::map::{Mapped, Register};
+use rules::map::Register;
 
 // What stands on the side of the access.
-fn side(write: bool, written: Mapped, read: Mapped) -> Mapped
+fn side(write: bool, written: Option<Register>, read: Option<Register>) -> Option<Register>
     ensures { result ≡ cond write written read }
 {
     if write { written } else { read }
 }
 
 // A register where a write goes and another where a read comes from.
-fn by_direction(write: bool, written: Register, read: Register) -> Mapped
-    ensures { result ≡ cond write (Present written) (Present read) }
+fn by_direction(write: bool, written: Register, read: Register) -> Option<Register>
+    ensures { result ≡ cond write (Some written) (Some read) }
 {
-    side(write, Mapped::Present(written), Mapped::Present(read))
+    side(write, Some(written), Some(read))
 }
 
 // What an access finds at an offset from 340h: one decision over 32 offsets and two directions.
-pub fn register_at(offset: u8, write: bool) -> Mapped
+pub fn register_at(offset: u8, write: bool) -> Option<Register>
     ensures { result ≡ mapped_at write offset }
 {
     match offset {
-        0 => Mapped::Present(Register::SCSISEQ),
-        1 => Mapped::Present(Register::SXFRCTL0),
-        2 => Mapped::Present(Register::SXFRCTL1),
+        0 => Some(Register::SCSISEQ),
+        1 => Some(Register::SXFRCTL0),
+        2 => Some(Register::SXFRCTL1),
         3 => by_direction(write, Register::SCSISIGO, Register::SCSISIGI),
-        4 => side(write, Mapped::Present(Register::SCSIRATE), Mapped::Missing),
+        4 => side(write, Some(Register::SCSIRATE), None),
         5 => by_direction(write, Register::SCSIID, Register::SELID),
-        6 => Mapped::Present(Register::SCSIDAT),
-        7 => side(write, Mapped::Missing, Mapped::Present(Register::SCSIBUS)),
-        8 => Mapped::Present(Register::STCNT0),
-        9 => Mapped::Present(Register::STCNT1),
-        10 => Mapped::Present(Register::STCNT2),
+        6 => Some(Register::SCSIDAT),
+        7 => side(write, None, Some(Register::SCSIBUS)),
+        8 => Some(Register::STCNT0),
+        9 => Some(Register::STCNT1),
+        10 => Some(Register::STCNT2),
         11 => by_direction(write, Register::CLRSINT0, Register::SSTAT0),
         12 => by_direction(write, Register::CLRSINT1, Register::SSTAT1),
-        13 => side(write, Mapped::Missing, Mapped::Present(Register::SSTAT2)),
+        13 => side(write, None, Some(Register::SSTAT2)),
         14 => by_direction(write, Register::SCSITEST, Register::SSTAT3),
         15 => by_direction(write, Register::CLRSERR, Register::SSTAT4),
-        16 => Mapped::Present(Register::SIMODE0),
-        17 => Mapped::Present(Register::SIMODE1),
-        18 => Mapped::Present(Register::DMACNTRL0),
-        19 => Mapped::Present(Register::DMACNTRL1),
-        20 => side(write, Mapped::Missing, Mapped::Present(Register::DMASTAT)),
-        21 => side(write, Mapped::Missing, Mapped::Present(Register::FIFOSTAT)),
-        22 => Mapped::Present(Register::DMADATA),
-        24 => Mapped::Present(Register::BRSTCNTRL),
-        28 => side(write, Mapped::Missing, Mapped::Present(Register::REV)),
-        29 => Mapped::Present(Register::STACK),
-        30 => side(write, Mapped::Present(Register::TEST), Mapped::Missing),
-        31 => side(write, Mapped::Missing, Mapped::Present(Register::ID)),
-        23 | 25..=27 | 32..=255 => Mapped::Missing,
+        16 => Some(Register::SIMODE0),
+        17 => Some(Register::SIMODE1),
+        18 => Some(Register::DMACNTRL0),
+        19 => Some(Register::DMACNTRL1),
+        20 => side(write, None, Some(Register::DMASTAT)),
+        21 => side(write, None, Some(Register::FIFOSTAT)),
+        22 => Some(Register::DMADATA),
+        24 => Some(Register::BRSTCNTRL),
+        28 => side(write, None, Some(Register::REV)),
+        29 => Some(Register::STACK),
+        30 => side(write, Some(Register::TEST), None),
+        31 => side(write, None, Some(Register::ID)),
+        23 | 25..=27 | 32..=255 => None,
     }
 }
 

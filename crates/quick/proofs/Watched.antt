@@ -1,5 +1,6 @@
 -- The one test of a line event: a record that agrees with another in the bits FFFC01FCh has its kind and offset, and its lines but
 -- for data, parity, REQ and ACK.
+use Rattle.std.specs.Prelude.{Some}
 use mathlib.Core.Path.{◌≡◌, refl, sym, ◌∙◌, ap}
 use mathlib.Core.Bool.{Bool, true, false, not, ◌&&◌, cond, and-not_self}
 use Prim.Native.Nat.{ℕ, ◌+◌, ◌*◌, ◌-◌, ◌/◌, ◌%◌, ◌^◌, ◌<◌}
@@ -15,7 +16,6 @@ use Rattle.rules.specs.Examples.{bytes_of}
 use Rattle.rules.specs.Records.{lines_of, payload_of, well_formed, fields_of, decode}
 use Rattle.rules.specs.Step.{step_event, step_decoded, step, access, ended}
 use Rattle.rules.specs.declared.records.Lines.{Lines}
-use Rattle.rules.specs.declared.records.Decoded.TheVariants.{Well}
 use Rattle.rules.specs.declared.records.Event.TheVariants.{Drive}
 use Rattle.rules.specs.Rest.{AtRest}
 use Rattle.rules.specs.Ranges.{InRange}
@@ -110,10 +110,10 @@ module _ (r : ℕ) (h : r / 262144 ≡ 0x2800) where
   payload : payload_of (r / 65536 % 256) (r / 256 % 256) (r / 1 % 256) ≡ r % 262144
   payload = ap (λ (n : ℕ). payload_of (r / 65536 % 256) (r / 256 % 256) (n % 256)) unit ∙ whole
 
-  line_decoded : decode (bytes_of 4 r) ≡ Well (Drive (lines_of (r % 262144)))
+  line_decoded : decode (bytes_of 4 r) ≡ Some (Drive (lines_of (r % 262144)))
   unfolding decode fields_of well_formed
   line_decoded =
-      let low : fields_of 5 0 (r % 262144) ≡ Well (Drive (lines_of (r % 262144))) = rw (lt-ltb (r % 262144) 262144 (omega arith)) in
+      let low : fields_of 5 0 (r % 262144) ≡ Some (Drive (lines_of (r % 262144))) = rw (lt-ltb (r % 262144) 262144 (omega arith)) in
       (λ j. fields_of (kind j) (offset j) (payload j)) ∙ low
 
   pub line_step : (s : State) → step s (bytes_of 4 r) ≡ access s (Drive (lines_of (r % 262144)))

@@ -1,1 +1,2 @@
 pub mod OffsetCount
+pub mod Kept

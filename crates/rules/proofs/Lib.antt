@@ -25,3 +25,4 @@ pub mod LostRounds
 pub mod Timeout
 pub mod Unanswered
 pub mod Selections
+pub mod Phases

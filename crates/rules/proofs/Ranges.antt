@@ -1,5 +1,6 @@
 -- Whatever records come, the state stays in range: from power reset the offset is at most 8, the SCSI FIFO at most 8, the host
 -- FIFO at most 128, the counter below 16,777,216 and the pointer below 32.
+use Rattle.std.specs.Prelude.{Option, Some, None}
 use mathlib.Core.Path.{◌≡◌, refl, sym, ◌∙◌}
 use mathlib.Core.Bool.{Bool, true, false, not, ◌&&◌, ◌||◌, cond}
 use mathlib.Core.List.{List, [], ◌∷◌, ◌++◌}
@@ -44,14 +45,10 @@ use Rattle.rules.specs.declared.registers.Scsirate.{Scsirate}
 use Rattle.rules.specs.declared.registers.Scsiid.{Scsiid}
 use Rattle.rules.specs.declared.registers.Registers.{Registers}
 use Rattle.rules.specs.declared.map.Register.{Register}
-use Rattle.rules.specs.declared.map.Mapped.{Mapped}
-use Rattle.rules.specs.declared.map.Mapped.TheVariants.{Present, Missing}
 use Rattle.rules.specs.declared.map.Register.TheVariants.{SCSISEQ, SXFRCTL0, SXFRCTL1, SCSISIGI, SCSISIGO, SCSIRATE, SELID, SCSIID, SCSIDAT, SCSIBUS, STCNT0, STCNT1, STCNT2, SSTAT0, CLRSINT0, SSTAT1, CLRSINT1, SSTAT2, SSTAT3, SCSITEST, SSTAT4, CLRSERR, SIMODE0, SIMODE1, DMACNTRL0, DMACNTRL1, DMASTAT, FIFOSTAT, DMADATA, BRSTCNTRL, REV, STACK, TEST, ID}
 use Rattle.rules.specs.declared.records.Lines.{Lines}
 use Rattle.rules.specs.declared.records.Event.{Event}
 use Rattle.rules.specs.declared.records.Event.TheVariants.{PowerReset, Write, Read, WordWrite, WordRead, Drive, Ticks}
-use Rattle.rules.specs.declared.records.Decoded.{Decoded}
-use Rattle.rules.specs.declared.records.Decoded.TheVariants.{Well, Ill}
 use Rattle.rules.specs.declared.codes.Code.{Code}
 use Rattle.rules.specs.declared.codes.Code.TheVariants.{Done, Malformed, Absent, Shut, NoRoom, NoBytes, BeyondLimit, TestValue}
 use Rattle.rules.specs.declared.chip.Conditions.{Conditions}
@@ -126,7 +123,7 @@ event_fits (suc (suc (suc (suc (suc (suc (suc k))))))) offset payload p o = tt
 fields_fit : (kind offset payload : ℕ) → DecodedFits (fields_of kind offset payload)
 unfolding fields_of well_formed
 fields_fit kind offset payload =
-    cond_case DecodedFits (ltb payload (payload_limit kind) && ltb offset (offset_limit kind)) (event_of kind offset payload) Ill
+    cond_case DecodedFits (ltb payload (payload_limit kind) && ltb offset (offset_limit kind)) (event_of kind offset payload) None
     (λ h.
     event_fits kind offset payload
     (ltb-true payload (payload_limit kind) (left_true (ltb payload (payload_limit kind)) (ltb offset (offset_limit kind)) h))
@@ -138,7 +135,7 @@ pub decode_fits : (bytes : List ℕ) → DecodedFits (decode bytes)
 unfolding decode
 decode_fits bytes =
     cond_case DecodedFits (eqb (length bytes) 4)
-    (fields_of (get_or bytes 0 0 / 32) (get_or bytes 0 0 % 32) (payload_of (get_or bytes 1 0) (get_or bytes 2 0) (get_or bytes 3 0))) Ill
+    (fields_of (get_or bytes 0 0 / 32) (get_or bytes 0 0 % 32) (payload_of (get_or bytes 1 0) (get_or bytes 2 0) (get_or bytes 3 0))) None
     (λ h. fields_fit (get_or bytes 0 0 / 32) (get_or bytes 0 0 % 32) (payload_of (get_or bytes 1 0) (get_or bytes 2 0) (get_or bytes 3 0)))
     (λ h. tt)
 
@@ -344,12 +341,12 @@ unfolding data_seen
 data_seen_fits s h i j = or_lt 8 s.lines.byte (data_driven s) h (data_driven_fits s i j)
 
 -- a REQ within the limit is below it, and a byte that is stored has room
-below_limit : (g a b : Bool) → (g && not (a || b)) ≡ true → a ≡ false
+pub below_limit : (g a b : Bool) → (g && not (a || b)) ≡ true → a ≡ false
 below_limit g false b e = refl
 below_limit true true b e = sym e
 below_limit false true b e = sym e
 
-stored_room : (g a i c : Bool) → (g && not (a || (i && c)) && i) ≡ true → c ≡ false
+pub stored_room : (g a i c : Bool) → (g && not (a || (i && c)) && i) ≡ true → c ≡ false
 stored_room g a i false e = refl
 stored_room true true i true e = sym e
 stored_room true false true true e = sym e
@@ -746,9 +743,9 @@ value_fits s PowerReset i j = omega arith
 value_fits s (Write offset value) i j = omega arith
 value_fits s (Read offset) i j = mapped (read_at offset)
   where
-    mapped : (m : Mapped) → read_mapped s m < 65536
-    mapped (Present r) = omega (arith, read_fits s r i j)
-    mapped Missing = omega arith
+    mapped : (m : Option Register) → read_mapped s m < 65536
+    mapped (Some r) = omega (arith, read_fits s r i j)
+    mapped None = omega arith
 value_fits s (WordWrite word) i j = omega arith
 value_fits s WordRead i j =
     omega (arith, bytes_at s.transfer.host 0 j.transfer.host, bytes_at s.transfer.host 1 j.transfer.host)
@@ -911,15 +908,15 @@ event_step_bytes s WordRead f i j = access_bytes s WordRead f i j
 event_step_bytes s (Drive lines) f i j = access_bytes s (Drive lines) f i j
 event_step_bytes s (Ticks n) f i j = ticks_bytes n s i j
 
-decoded_in_range : (s : State) (d : Decoded) → DecodedFits d → InRange s → InRange (step_decoded s d).state
+decoded_in_range : (s : State) (d : Option Event) → DecodedFits d → InRange s → InRange (step_decoded s d).state
 unfolding step_decoded ended
-decoded_in_range s (Well e) f i = event_in_range s e f i
-decoded_in_range s Ill f i = i
+decoded_in_range s (Some e) f i = event_in_range s e f i
+decoded_in_range s None f i = i
 
-decoded_step_bytes : (s : State) (d : Decoded) → DecodedFits d → InRange s → InBytes s → StepBytes (step_decoded s d)
+decoded_step_bytes : (s : State) (d : Option Event) → DecodedFits d → InRange s → InBytes s → StepBytes (step_decoded s d)
 unfolding step_decoded
-decoded_step_bytes s (Well e) f i j = event_step_bytes s e f i j
-decoded_step_bytes s Ill f i j = ended_bytes s Malformed 0 (omega arith) j
+decoded_step_bytes s (Some e) f i j = event_step_bytes s e f i j
+decoded_step_bytes s None f i j = ended_bytes s Malformed 0 (omega arith) j
 
 -- EVERY RECORD, whatever numbers it holds, leaves the state in range
 pub step_in_range : (s : State) (bytes : List ℕ) → InRange s → InRange (step s bytes).state

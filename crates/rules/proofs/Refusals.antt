@@ -1,4 +1,5 @@
 -- Codes: which one, in which order, what a refusal leaves, and where code 6 comes from.
+use Rattle.std.specs.Prelude.{Option, Some, None}
 use mathlib.Core.Path.{◌≡◌, refl, sym, ◌∙◌, ap}
 use mathlib.Core.Bool.{Bool, true, false, cond, and-not_self}
 use mathlib.Core.List.{List, [], ◌∷◌}
@@ -15,12 +16,9 @@ use Rattle.rules.specs.Answers.{Stepped}
 use Rattle.rules.specs.Step.{ended, done, access, single_ticks, ticks_taken, step_event, step_decoded, step}
 use Rattle.rules.specs.declared.codes.Code.{Code}
 use Rattle.rules.specs.declared.codes.Code.TheVariants.{Done, Malformed, Absent, Shut, NoRoom, NoBytes, BeyondLimit, TestValue}
-use Rattle.rules.specs.declared.map.Mapped.TheVariants.{Missing}
 use Rattle.rules.specs.declared.records.Lines.{Lines}
 use Rattle.rules.specs.declared.records.Event.{Event}
 use Rattle.rules.specs.declared.records.Event.TheVariants.{PowerReset, Write, Read, WordWrite, WordRead, Drive, Ticks}
-use Rattle.rules.specs.declared.records.Decoded.{Decoded}
-use Rattle.rules.specs.declared.records.Decoded.TheVariants.{Well, Ill}
 use Rattle.rules.specs.Examples.{Row, row, misses}
 use Rattle.rules.proofs.Computes.{computes}
 use Rattle.rules.proofs.InOrder.{Apart, req_leaves}
@@ -85,7 +83,7 @@ done_passed s e h =
     go false false false false false p q r t u = record { present = p; value = q; port = r; room = t; bytes = u }
 
 -- 1 comes first: a record that is not well formed gets it whatever the state
-pub first_malformed : (s : State) (bytes : List ℕ) → decode bytes ≡ Ill → (step s bytes).code ≡ Malformed
+pub first_malformed : (s : State) (bytes : List ℕ) → decode bytes ≡ None → (step s bytes).code ≡ Malformed
 unfolding step step_decoded ended
 first_malformed s bytes e = rw e
 
@@ -117,15 +115,15 @@ pub refusal_changes_nothing : (s : State) (bytes : List ℕ) → is_refusal (ste
 unfolding step step_decoded step_event ended
 refusal_changes_nothing s bytes = go (decode bytes)
   where
-    go : (d : Decoded) → is_refusal (step_decoded s d).code ≡ true → Unchanged s (step_decoded s d)
-    go Ill h = record { state = refl; moves = refl; acks = refl; sent = refl }
-    go (Well PowerReset) h = absurd (never h)
-    go (Well (Write o v)) h = access_refused s (Write o v) h
-    go (Well (Read o)) h = access_refused s (Read o) h
-    go (Well (WordWrite w)) h = access_refused s (WordWrite w) h
-    go (Well WordRead) h = access_refused s WordRead h
-    go (Well (Drive l)) h = access_refused s (Drive l) h
-    go (Well (Ticks n)) h = ticks_refused s n h
+    go : (d : Option Event) → is_refusal (step_decoded s d).code ≡ true → Unchanged s (step_decoded s d)
+    go None h = record { state = refl; moves = refl; acks = refl; sent = refl }
+    go (Some PowerReset) h = absurd (never h)
+    go (Some (Write o v)) h = access_refused s (Write o v) h
+    go (Some (Read o)) h = access_refused s (Read o) h
+    go (Some (WordWrite w)) h = access_refused s (WordWrite w) h
+    go (Some WordRead) h = access_refused s WordRead h
+    go (Some (Drive l)) h = access_refused s (Drive l) h
+    go (Some (Ticks n)) h = ticks_refused s n h
 
 -- the value of a refusal: "FFh on read", "all ones of the width on read", "0 on write"
 access_value : (s : State) (e : Event) → is_refusal (access s e).code ≡ true → (access s e).value ≡ refused_value e
@@ -150,18 +148,18 @@ refusal_value s (Ticks n) h = ticks_value n h
 
 -- an access that finds nothing: the code and the value that the map has for it
 pub record Missed (s : State) (e : Event) : Type 0 where
-  pub code : (access s e).code ≡ mapped_code Missing
-  pub value : (access s e).value ≡ mapped_value Missing e
+  pub code : (access s e).code ≡ mapped_code None
+  pub value : (access s e).value ≡ mapped_value None e
 
 absent_missed : (s : State) (e : Event) → absent e ≡ true → Missed s e
 unfolding access ended
 absent_missed s e h = let c : access_code s e ≡ Absent = (in_order_lem s e).second h in record { code = rw c; value = rw c }
 
-pub read_missed : (s : State) (offset : ℕ) → read_at offset ≡ Missing → Missed s (Read offset)
+pub read_missed : (s : State) (offset : ℕ) → read_at offset ≡ None → Missed s (Read offset)
 unfolding absent
 read_missed s offset h = absent_missed s (Read offset) (rw h)
 
-pub write_missed : (s : State) (offset value : ℕ) → written_at offset ≡ Missing → Missed s (Write offset value)
+pub write_missed : (s : State) (offset value : ℕ) → written_at offset ≡ None → Missed s (Write offset value)
 unfolding absent
 write_missed s offset value h = absent_missed s (Write offset value) (rw h)
 
@@ -208,19 +206,19 @@ ticks_beyond s zero h = access_beyond s (Ticks 0) refl h
 ticks_beyond s (suc n) h = omega (arith, ap number_of h)
 
 -- "6 arises only in kind 5"
-pub beyond_only_lines : (s : State) (bytes : List ℕ) → (step s bytes).code ≡ BeyondLimit → (l : Lines) × (decode bytes ≡ Well (Drive l))
+pub beyond_only_lines : (s : State) (bytes : List ℕ) → (step s bytes).code ≡ BeyondLimit → (l : Lines) × (decode bytes ≡ Some (Drive l))
 unfolding step step_decoded step_event ended lines_after
 beyond_only_lines s bytes = go (decode bytes)
   where
-    go : (d : Decoded) → (step_decoded s d).code ≡ BeyondLimit → (l : Lines) × (d ≡ Well (Drive l))
-    go Ill h = absurd (omega (arith, ap number_of h))
-    go (Well PowerReset) h = absurd (omega (arith, ap number_of h))
-    go (Well (Write o v)) h = absurd (access_beyond s (Write o v) refl h)
-    go (Well (Read o)) h = absurd (access_beyond s (Read o) refl h)
-    go (Well (WordWrite w)) h = absurd (access_beyond s (WordWrite w) refl h)
-    go (Well WordRead) h = absurd (access_beyond s WordRead refl h)
-    go (Well (Drive l)) h = (l, refl)
-    go (Well (Ticks n)) h = absurd (ticks_beyond s n h)
+    go : (d : Option Event) → (step_decoded s d).code ≡ BeyondLimit → (l : Lines) × (d ≡ Some (Drive l))
+    go None h = absurd (omega (arith, ap number_of h))
+    go (Some PowerReset) h = absurd (omega (arith, ap number_of h))
+    go (Some (Write o v)) h = absurd (access_beyond s (Write o v) refl h)
+    go (Some (Read o)) h = absurd (access_beyond s (Read o) refl h)
+    go (Some (WordWrite w)) h = absurd (access_beyond s (WordWrite w) refl h)
+    go (Some WordRead) h = absurd (access_beyond s WordRead refl h)
+    go (Some (Drive l)) h = (l, refl)
+    go (Some (Ticks n)) h = absurd (ticks_beyond s n h)
 
 -- each refusal with its value, computed: the code's three bits, then the value in the third and fourth byte
 abbrev refusal_values : List Row

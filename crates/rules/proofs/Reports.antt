@@ -1,5 +1,6 @@
 -- WHAT A STEP REPORTS FITS ITS FIELDS, "its moves, ACKs and bytes sent are those of its ticks together" included: of the ticks of
 -- a chip at rest at most one settles anything.
+use Rattle.std.specs.Prelude.{Option, Some, None}
 use Prim.Native.Nat.{ℕ, zero, suc, ◌+◌, ◌-◌, ◌≤◌, ◌<◌}
 use mathlib.Core.Path.{◌≡◌, refl, ap, sym, ◌∙◌, subst}
 use mathlib.Core.Bool.{Bool, true, false, not, ◌&&◌, ◌||◌, cond, and-not_self}
@@ -29,8 +30,6 @@ use Rattle.rules.specs.declared.chip.Phase.{Phase}
 use Rattle.rules.specs.declared.chip.Phase.TheVariants.{Idle, Waiting, Arbitrating, Clearing, Selecting, Holding, Answering, Answered}
 use Rattle.rules.specs.declared.codes.Code.TheVariants.{Done, Malformed}
 use Rattle.rules.specs.declared.registers.Dmacntrl0.{Dmacntrl0}
-use Rattle.rules.specs.declared.records.Decoded.{Decoded}
-use Rattle.rules.specs.declared.records.Decoded.TheVariants.{Well, Ill}
 use Rattle.rules.specs.declared.records.Event.{Event}
 use Rattle.rules.specs.declared.records.Event.TheVariants.{PowerReset, Write, Read, WordWrite, WordRead, Drive, Ticks}
 use Rattle.rules.proofs.Logic.{never, left_true, right_true, cond_case}
@@ -555,10 +554,10 @@ event_reports s WordRead f i = access_fits s WordRead f i
 event_reports s (Drive lines) f i = access_fits s (Drive lines) f i
 event_reports s (Ticks n) f i = taken_reports n s i
 
-decoded_reports : (s : State) (d : Decoded) → DecodedFits d → InRange s → StepFits (step_decoded s d)
+decoded_reports : (s : State) (d : Option Event) → DecodedFits d → InRange s → StepFits (step_decoded s d)
 unfolding step_decoded
-decoded_reports s (Well e) f i = event_reports s e f i
-decoded_reports s Ill f i = ended_fits s Malformed 0 i
+decoded_reports s (Some e) f i = event_reports s e f i
+decoded_reports s None f i = ended_fits s Malformed 0 i
 
 -- EVERY RECORD, whatever numbers it holds, leaves the state in range and reports what fits its fields: moves in 5 bits, ACKs in 4
 pub step_fits : (s : State) (bytes : List ℕ) → InRange s → StepFits (step s bytes)

@@ -1,4 +1,5 @@
 -- R-1, "What a reader asks" of the sequencer: over any state and any event.
+use Rattle.std.specs.Prelude.{Option, Some, None}
 use mathlib.Core.Path.{◌≡◌, refl, ap, ap₂, sym, subst, ◌∙◌}
 use mathlib.Core.Bool.{Bool, true, false, not, ◌&&◌, ◌||◌, cond, or-false}
 use mathlib.Core.List.{List, [], ◌∷◌}
@@ -29,8 +30,6 @@ use Rattle.rules.specs.declared.chip.Phase.TheVariants.{Idle, Waiting, Arbitrati
 use Rattle.rules.specs.declared.chip.Selection.{Selection}
 use Rattle.rules.specs.declared.chip.Sequencer.{Sequencer}
 use Rattle.rules.specs.declared.records.Lines.{Lines}
-use Rattle.rules.specs.declared.records.Decoded.{Decoded}
-use Rattle.rules.specs.declared.records.Decoded.TheVariants.{Well, Ill}
 use Rattle.rules.specs.declared.records.Event.{Event}
 use Rattle.rules.specs.declared.records.Event.TheVariants.{PowerReset, Write, Read, WordWrite, WordRead, Drive, Ticks}
 use Rattle.rules.proofs.Logic.{never, left_true, right_true, cond_case}
@@ -1223,9 +1222,9 @@ module _ (P : State → Type 0) (reset : P power_reset) (kept : (s : State) (e :
   unfolding step step_decoded ended
   step_keeps s bytes h = go (decode bytes)
     where
-      go : (d : Decoded) → P (step_decoded s d).state
-      go (Well e) = event_keeps e s h
-      go Ill = h
+      go : (d : Option Event) → P (step_decoded s d).state
+      go (Some e) = event_keeps e s h
+      go None = h
 
   pub records_keep : (records : List (List ℕ)) (s : State) → P s → P (after s records)
   records_keep [] s h = h

@@ -1,4 +1,5 @@
 -- An event of 0 ticks after any event changes nothing.
+use Rattle.std.specs.Prelude.{Option, Some, None}
 use mathlib.Core.Path.{◌≡◌, refl, sym, ◌∙◌, ap}
 use mathlib.Core.Bool.{Bool, true, false, not, ◌&&◌, ◌||◌, cond, and-not_self, and-false}
 use mathlib.Core.List.{List, [], ◌∷◌}
@@ -28,8 +29,6 @@ use Rattle.rules.specs.Ranges.{EventFits, DecodedFits, InRange}
 use Rattle.rules.specs.declared.registers.Registers.{Registers}
 use Rattle.rules.specs.declared.records.Event.{Event}
 use Rattle.rules.specs.declared.records.Event.TheVariants.{PowerReset, Write, Read, WordWrite, WordRead, Drive, Ticks}
-use Rattle.rules.specs.declared.records.Decoded.{Decoded}
-use Rattle.rules.specs.declared.records.Decoded.TheVariants.{Well, Ill}
 use Rattle.rules.specs.declared.codes.Code.TheVariants.{Done, BeyondLimit}
 use Rattle.rules.specs.declared.chip.Status.{Status}
 use Rattle.rules.specs.declared.chip.Latches.{Latches}
@@ -455,10 +454,10 @@ event_rests s WordRead f i r = access_rests s WordRead f i r
 event_rests s (Drive lines) f i r = access_rests s (Drive lines) f i r
 event_rests s (Ticks n) f i r = ticks_rest n s i r
 
-decoded_rests : (s : State) (d : Decoded) → DecodedFits d → InRange s → AtRest s → AtRest (step_decoded s d).state
+decoded_rests : (s : State) (d : Option Event) → DecodedFits d → InRange s → AtRest s → AtRest (step_decoded s d).state
 unfolding step_decoded ended
-decoded_rests s (Well e) f i r = event_rests s e f i r
-decoded_rests s Ill f i r = r
+decoded_rests s (Some e) f i r = event_rests s e f i r
+decoded_rests s None f i r = r
 
 -- EVERY RECORD LEAVES THE CHIP AT REST
 pub step_rests : (s : State) (bytes : List ℕ) → InRange s → AtRest s → AtRest (step s bytes).state

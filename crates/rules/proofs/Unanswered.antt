@@ -1,5 +1,6 @@
 -- R-1: "a selection that nobody answers, with ENSTIMER set and STIMESEL, RST and 340h left alone, ends by SELTO at exactly its limit",
 -- over any list of records: ticks in any pieces, with whatever else between them that leaves the selection to its time.
+use Rattle.std.specs.Prelude.{Option, Some, None}
 use Prim.Native.Nat.{ℕ, zero, suc, ◌+◌, ◌*◌, ◌-◌, ◌≤◌, ◌<◌}
 use mathlib.Core.Path.{◌≡◌, refl, ap, sym, subst, ◌∙◌}
 use mathlib.Core.Bool.{Bool, true, false, not, ◌&&◌, ◌||◌, cond, beq}
@@ -30,8 +31,6 @@ use Rattle.rules.specs.declared.chip.Selection.{Selection}
 use Rattle.rules.specs.declared.chip.Sequenced.{Sequenced}
 use Rattle.rules.specs.declared.chip.Sequencer.{Sequencer}
 use Rattle.rules.specs.declared.records.Lines.{Lines}
-use Rattle.rules.specs.declared.records.Decoded.{Decoded}
-use Rattle.rules.specs.declared.records.Decoded.TheVariants.{Well, Ill}
 use Rattle.rules.specs.declared.records.Event.{Event}
 use Rattle.rules.specs.declared.records.Event.TheVariants.{PowerReset, Write, Read, WordWrite, WordRead, Drive, Ticks}
 use Rattle.rules.proofs.Logic.{never, left_true, right_true, cond_case}
@@ -64,13 +63,13 @@ leaves_time x (Drive lines) = not lines.bsy && not lines.rst
 leaves_time x (Ticks n) = true
 
 -- of a record: one that is not well formed changes nothing
-abbrev pub leaves_decoded : Sxfrctl1 → Decoded → Bool
-leaves_decoded x (Well e) = leaves_time x e
-leaves_decoded x Ill = true
+abbrev pub leaves_decoded : Sxfrctl1 → Option Event → Bool
+leaves_decoded x (Some e) = leaves_time x e
+leaves_decoded x None = true
 
-abbrev pub ticks_decoded : Decoded → ℕ
-ticks_decoded (Well e) = ticks_of e
-ticks_decoded Ill = 0
+abbrev pub ticks_decoded : Option Event → ℕ
+ticks_decoded (Some e) = ticks_of e
+ticks_decoded None = 0
 
 -- of records, and their ticks together
 abbrev pub AllLeave : Sxfrctl1 → List (List ℕ) → Type 0
@@ -365,18 +364,18 @@ no_more : (s t : State) (k : ℕ) → StillSelects s k t → StillSelects s (k +
 no_more s t k h = subst (λ (m : ℕ). StillSelects s m t) (omega arith) h
 
 decoded_selects :
-    (s t : State) (k : ℕ) → StillSelects s k t → InRange t → (d : Decoded) → leaves_decoded s.registers.sxfrctl1 d ≡ true →
+    (s t : State) (k : ℕ) → StillSelects s k t → InRange t → (d : Option Event) → leaves_decoded s.registers.sxfrctl1 d ≡ true →
     k + ticks_decoded d < timeout s.registers → StillSelects s (k + ticks_decoded d) (step_decoded t d).state
 unfolding step_decoded step_event ticks_taken ended ticks_of
-decoded_selects s t k h i (Well PowerReset) f l = absurd (never f)
-decoded_selects s t k h i (Well (Write offset value)) f l = no_more s _ k (access_selects s t k h (Write offset value) f refl)
-decoded_selects s t k h i (Well (Read offset)) f l = no_more s _ k (access_selects s t k h (Read offset) f refl)
-decoded_selects s t k h i (Well (WordWrite word)) f l = no_more s _ k (access_selects s t k h (WordWrite word) f refl)
-decoded_selects s t k h i (Well WordRead) f l = no_more s _ k (access_selects s t k h WordRead f refl)
-decoded_selects s t k h i (Well (Drive lines)) f l = no_more s _ k (access_selects s t k h (Drive lines) f refl)
-decoded_selects s t k h i (Well (Ticks zero)) f l = no_more s _ k (access_selects s t k h (Ticks 0) f refl)
-decoded_selects s t k h i (Well (Ticks (suc m))) f l = ticks_select s t k h i (suc m) l
-decoded_selects s t k h i Ill f l = no_more s t k h
+decoded_selects s t k h i (Some PowerReset) f l = absurd (never f)
+decoded_selects s t k h i (Some (Write offset value)) f l = no_more s _ k (access_selects s t k h (Write offset value) f refl)
+decoded_selects s t k h i (Some (Read offset)) f l = no_more s _ k (access_selects s t k h (Read offset) f refl)
+decoded_selects s t k h i (Some (WordWrite word)) f l = no_more s _ k (access_selects s t k h (WordWrite word) f refl)
+decoded_selects s t k h i (Some WordRead) f l = no_more s _ k (access_selects s t k h WordRead f refl)
+decoded_selects s t k h i (Some (Drive lines)) f l = no_more s _ k (access_selects s t k h (Drive lines) f refl)
+decoded_selects s t k h i (Some (Ticks zero)) f l = no_more s _ k (access_selects s t k h (Ticks 0) f refl)
+decoded_selects s t k h i (Some (Ticks (suc m))) f l = ticks_select s t k h i (suc m) l
+decoded_selects s t k h i None f l = no_more s t k h
 
 -- ANY LIST OF THEM, while their ticks together are below the limit
 records_select :

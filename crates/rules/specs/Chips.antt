@@ -5,24 +5,31 @@ use Rattle.rules.specs.State.{State, Transfer}
 use Rattle.rules.specs.Counter.{counter_size}
 use Rattle.rules.specs.Numbers.{padded}
 use Rattle.rules.specs.declared.registers.Registers.{Registers}
-use Rattle.rules.specs.declared.chip.HostFifo.{HostFifo}
-use Rattle.rules.specs.declared.chip.ScsiFifo.{ScsiFifo}
+use Rattle.rules.specs.declared.chip.Fifo.{Fifo}
 use Rattle.rules.specs.declared.chip.DataPath.{DataPath}
 use Rattle.rules.specs.declared.chip.Stack.{Stack}
 use Rattle.rules.specs.declared.chip.Sequencer.{Sequencer}
 use Rattle.rules.specs.declared.chip.Chip.{Chip}
 
-abbrev pub host_view : HostFifo → List ℕ
-host_view f = take f.count f.bytes
+-- bytes with their count, as a list
+abbrev pub fifo_view : {places : ℕ} → Fifo places → List ℕ
+fifo_view f = take f.count f.bytes
 
-abbrev pub host_of : List ℕ → HostFifo
-host_of l = record { bytes = padded 128 l; count = length l }
+-- the one form of a list
+abbrev pub fifo_of : (places : ℕ) → List ℕ → Fifo places
+fifo_of places l = record { bytes = padded places l; count = length l }
 
-abbrev pub scsi_view : ScsiFifo → List ℕ
-scsi_view f = take f.count f.bytes
+abbrev pub host_view : Fifo 128 → List ℕ
+host_view f = fifo_view f
 
-abbrev pub scsi_of : List ℕ → ScsiFifo
-scsi_of l = record { bytes = padded 8 l; count = length l }
+abbrev pub host_of : List ℕ → Fifo 128
+host_of l = fifo_of 128 l
+
+abbrev pub scsi_view : Fifo 8 → List ℕ
+scsi_view f = fifo_view f
+
+abbrev pub scsi_of : List ℕ → Fifo 8
+scsi_of l = fifo_of 8 l
 
 unfoldable pub path_view : DataPath → Transfer
 path_view p =

@@ -1,4 +1,6 @@
 -- Document 01, "Codes": which code, in which order it is checked, and the value that goes with it.
+use Rattle.std.specs.Prelude.{Option, Some, None}
+use Rattle.rules.specs.declared.map.Register.{Register}
 use Rattle.std.specs.Prelude.{ℕ, ◌+◌, Bool, true, false, not, ◌&&◌, ◌||◌, cond, List, [], ◌∷◌, eqb, ltb, length}
 use Rattle.std.specs.Bool.{beq}
 use Rattle.rules.specs.State.{State}
@@ -7,8 +9,6 @@ use Rattle.rules.specs.Events.{writes, value_of, offered, asked, wide, port_writ
 use Rattle.rules.specs.declared.registers.Registers.{Registers}
 use Rattle.rules.specs.declared.codes.Code.{Code}
 use Rattle.rules.specs.declared.codes.Code.TheVariants.{Done, Malformed, Absent, Shut, NoRoom, NoBytes, BeyondLimit, TestValue}
-use Rattle.rules.specs.declared.map.Mapped.{Mapped}
-use Rattle.rules.specs.declared.map.Mapped.TheVariants.{Present, Missing}
 use Rattle.rules.specs.declared.map.Register.TheVariants.{SCSITEST, TEST}
 use Rattle.rules.specs.declared.records.Event.{Event}
 use Rattle.rules.specs.declared.records.Event.TheVariants.{PowerReset, Write, Read, WordWrite, WordRead, Drive, Ticks}
@@ -46,9 +46,9 @@ is_refusal BeyondLimit = false
 is_refusal TestValue = true
 
 -- the code of what stands at an offset in one direction: with a register the checks go on, with nothing it is 2
-abbrev pub mapped_code : Mapped → Code
-mapped_code (Present r) = Done
-mapped_code Missing = Absent
+abbrev pub mapped_code : Option Register → Code
+mapped_code (Some r) = Done
+mapped_code None = Absent
 
 -- 2: "register absent in that direction"
 unfoldable pub absent : Event → Bool
@@ -90,7 +90,7 @@ check b c = record { holds = b; code = c }
 -- "Checked in the order 1, 2, 7, 3, then 4 or 5": 1 stands with the decoder (specs/Step.antt)
 abbrev pub checks : State → Event → List Check
 checks s e =
-    check (absent e) (mapped_code Missing)
+    check (absent e) (mapped_code None)
     ∷ check (test_value e) TestValue
     ∷ check (shut s.registers e) Shut
     ∷ check (no_room s e) NoRoom
@@ -116,6 +116,6 @@ refused_value (Drive lines) = 0
 refused_value (Ticks n) = 0
 
 -- the value that goes with that code: "FFh on read, 0 on write" where nothing stands; none, 0, where the checks go on
-abbrev pub mapped_value : Mapped → Event → ℕ
-mapped_value (Present r) e = 0
-mapped_value Missing e = refused_value e
+abbrev pub mapped_value : Option Register → Event → ℕ
+mapped_value (Some r) e = 0
+mapped_value None e = refused_value e

@@ -1,67 +1,66 @@
 -- The register map, by offset from 340h and direction: document 001, Table 4-2, narrowed by document 01:
 -- "344h is write-only", "357h, 359h, 35Ah, 35Bh are absent", "347h, 34Dh, 354h, 355h, 35Ch, 35Fh cannot be written;
 -- 35Eh cannot be read."
+use Rattle.std.specs.Prelude.{Option, Some, None}
 use Rattle.std.specs.Prelude.{ℕ, List, [], ◌∷◌, get_or}
 use Rattle.rules.specs.declared.map.Register.{Register}
 use Rattle.rules.specs.declared.map.Register.TheVariants.{SCSISEQ, SXFRCTL0, SXFRCTL1, SCSISIGI, SCSISIGO, SCSIRATE, SELID, SCSIID, SCSIDAT, SCSIBUS, STCNT0, STCNT1, STCNT2, SSTAT0, CLRSINT0, SSTAT1, CLRSINT1, SSTAT2, SSTAT3, SCSITEST, SSTAT4, CLRSERR, SIMODE0, SIMODE1, DMACNTRL0, DMACNTRL1, DMASTAT, FIFOSTAT, DMADATA, BRSTCNTRL, REV, STACK, TEST, ID}
-use Rattle.rules.specs.declared.map.Mapped.{Mapped}
-use Rattle.rules.specs.declared.map.Mapped.TheVariants.{Present, Missing}
 
 -- what a read and a write find at one offset
 pub record Row : Type 0 where
-  pub read : Mapped
-  pub written : Mapped
+  pub read : Option Register
+  pub written : Option Register
 
-abbrev pub row : Mapped → Mapped → Row
+abbrev pub row : Option Register → Option Register → Row
 row a b = record { read = a; written = b }
 
 abbrev pub both : Register → Row
-both r = row (Present r) (Present r)
+both r = row (Some r) (Some r)
 
 abbrev pub nothing : Row
-nothing = row Missing Missing
+nothing = row None None
 
 unfoldable pub table : List Row
 table =
     both SCSISEQ  -- 340h
     ∷ both SXFRCTL0  -- 341h
     ∷ both SXFRCTL1  -- 342h
-    ∷ row (Present SCSISIGI) (Present SCSISIGO)  -- 343h
-    ∷ row Missing (Present SCSIRATE)  -- 344h
-    ∷ row (Present SELID) (Present SCSIID)  -- 345h
+    ∷ row (Some SCSISIGI) (Some SCSISIGO)  -- 343h
+    ∷ row None (Some SCSIRATE)  -- 344h
+    ∷ row (Some SELID) (Some SCSIID)  -- 345h
     ∷ both SCSIDAT  -- 346h
-    ∷ row (Present SCSIBUS) Missing  -- 347h
+    ∷ row (Some SCSIBUS) None  -- 347h
     ∷ both STCNT0  -- 348h
     ∷ both STCNT1  -- 349h
     ∷ both STCNT2  -- 34Ah
-    ∷ row (Present SSTAT0) (Present CLRSINT0)  -- 34Bh
-    ∷ row (Present SSTAT1) (Present CLRSINT1)  -- 34Ch
-    ∷ row (Present SSTAT2) Missing  -- 34Dh
-    ∷ row (Present SSTAT3) (Present SCSITEST)  -- 34Eh
-    ∷ row (Present SSTAT4) (Present CLRSERR)  -- 34Fh
+    ∷ row (Some SSTAT0) (Some CLRSINT0)  -- 34Bh
+    ∷ row (Some SSTAT1) (Some CLRSINT1)  -- 34Ch
+    ∷ row (Some SSTAT2) None  -- 34Dh
+    ∷ row (Some SSTAT3) (Some SCSITEST)  -- 34Eh
+    ∷ row (Some SSTAT4) (Some CLRSERR)  -- 34Fh
     ∷ both SIMODE0  -- 350h
     ∷ both SIMODE1  -- 351h
     ∷ both DMACNTRL0  -- 352h
     ∷ both DMACNTRL1  -- 353h
-    ∷ row (Present DMASTAT) Missing  -- 354h
-    ∷ row (Present FIFOSTAT) Missing  -- 355h
+    ∷ row (Some DMASTAT) None  -- 354h
+    ∷ row (Some FIFOSTAT) None  -- 355h
     ∷ both DMADATA  -- 356h
     ∷ nothing  -- 357h
     ∷ both BRSTCNTRL  -- 358h
     ∷ nothing  -- 359h
     ∷ nothing  -- 35Ah
     ∷ nothing  -- 35Bh
-    ∷ row (Present REV) Missing  -- 35Ch
+    ∷ row (Some REV) None  -- 35Ch
     ∷ both STACK  -- 35Dh
-    ∷ row Missing (Present TEST)  -- 35Eh
-    ∷ row (Present ID) Missing  -- 35Fh
+    ∷ row None (Some TEST)  -- 35Eh
+    ∷ row (Some ID) None  -- 35Fh
     ∷ []
 
-unfoldable pub read_at : ℕ → Mapped
+unfoldable pub read_at : ℕ → Option Register
 unfolding table
 read_at offset = (get_or table offset nothing).read
 
-unfoldable pub written_at : ℕ → Mapped
+unfoldable pub written_at : ℕ → Option Register
 unfolding table
 written_at offset = (get_or table offset nothing).written
 

@@ -1,4 +1,5 @@
 -- The states in range: what every state reached from power reset is, and what a chip value is once tidied.
+use Rattle.std.specs.Prelude.{Option, Some, None}
 use Rattle.std.specs.Prelude.{ℕ, ◌<◌, ◌≤◌, ◌≡◌, List, [], ◌∷◌, length}
 use Rattle.rules.specs.State.{State, Transfer}
 use Rattle.rules.specs.Counter.{counter_size}
@@ -8,8 +9,6 @@ use Rattle.rules.specs.declared.chip.Stack.{Stack}
 use Rattle.rules.specs.declared.chip.Chip.{Chip}
 use Rattle.rules.specs.declared.records.Event.{Event}
 use Rattle.rules.specs.declared.records.Event.TheVariants.{PowerReset, Write, Read, WordWrite, WordRead, Drive, Ticks}
-use Rattle.rules.specs.declared.records.Decoded.{Decoded}
-use Rattle.rules.specs.declared.records.Decoded.TheVariants.{Well, Ill}
 
 -- offset at most 8, SCSI FIFO at most 8, host FIFO at most 128, counter below 16,777,216
 pub record TransferFits (t : Transfer) : Type 0 where
@@ -76,6 +75,6 @@ EventFits (Drive lines) = lines.byte < 256
 EventFits (Ticks n) = n < 16777216
 
 -- what is decoded is in range
-abbrev pub DecodedFits : Decoded → Type 0
-DecodedFits (Well e) = EventFits e
-DecodedFits Ill = Unit {0}
+abbrev pub DecodedFits : Option Event → Type 0
+DecodedFits (Some e) = EventFits e
+DecodedFits None = Unit {0}

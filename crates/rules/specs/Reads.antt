@@ -1,4 +1,5 @@
 -- What a read gives: one definition for each register, then the choice among them by name.
+use Rattle.std.specs.Prelude.{Option, Some, None}
 use Rattle.std.specs.Prelude.{ℕ, ◌+◌, ◌*◌, ◌-◌, ◌%◌, false, not, ◌&&◌, List, [], ◌∷◌, eqb, leb, length, get_or}
 use Rattle.rules.specs.Numbers.{byte_of}
 use Rattle.rules.specs.Registers.{scsiseq_byte, sxfrctl0_byte, sxfrctl1_byte, simode0_byte, simode1_byte, dmacntrl0_byte, dmacntrl1_byte}
@@ -10,8 +11,6 @@ use Rattle.rules.specs.Interrupts.{phasemis, instat}
 use Rattle.rules.specs.Map.{read_at}
 use Rattle.rules.specs.declared.map.Register.{Register}
 use Rattle.rules.specs.declared.map.Register.TheVariants.{SCSISEQ, SXFRCTL0, SXFRCTL1, SCSISIGI, SCSISIGO, SCSIRATE, SELID, SCSIID, SCSIDAT, SCSIBUS, STCNT0, STCNT1, STCNT2, SSTAT0, CLRSINT0, SSTAT1, CLRSINT1, SSTAT2, SSTAT3, SCSITEST, SSTAT4, CLRSERR, SIMODE0, SIMODE1, DMACNTRL0, DMACNTRL1, DMASTAT, FIFOSTAT, DMADATA, BRSTCNTRL, REV, STACK, TEST, ID}
-use Rattle.rules.specs.declared.map.Mapped.{Mapped}
-use Rattle.rules.specs.declared.map.Mapped.TheVariants.{Present, Missing}
 use Rattle.rules.specs.declared.records.Event.{Event}
 use Rattle.rules.specs.declared.records.Event.TheVariants.{PowerReset, Write, Read, WordWrite, WordRead, Drive, Ticks}
 
@@ -100,9 +99,9 @@ read_of s SCSITEST = 0
 read_of s CLRSERR = 0
 read_of s TEST = 0
 
-abbrev pub read_mapped : State → Mapped → ℕ
-read_mapped s (Present r) = read_of s r
-read_mapped s Missing = 0
+abbrev pub read_mapped : State → Option Register → ℕ
+read_mapped s (Some r) = read_of s r
+read_mapped s None = 0
 
 -- the value of an event that is done: "what was read, else 0"
 unfoldable pub value_read : State → Event → ℕ

@@ -1,10 +1,10 @@
 -- Event records. Document 01, "Records": "An event is 4 bytes: kind (3 bits), register offset from 340h (5), payload (24)."
+use Rattle.std.specs.Prelude.{Option, Some, None}
+use Rattle.rules.specs.declared.records.Event.{Event}
 use Rattle.std.specs.Prelude.{ℕ, ◌+◌, ◌*◌, ◌/◌, ◌%◌, Bool, ◌&&◌, cond, List, [], ◌∷◌, eqb, ltb, length, get_or}
 use Rattle.rules.specs.Numbers.{bit, field}
 use Rattle.rules.specs.declared.records.Lines.{Lines}
 use Rattle.rules.specs.declared.records.Event.TheVariants.{PowerReset, Write, Read, WordWrite, WordRead, Drive, Ticks}
-use Rattle.rules.specs.declared.records.Decoded.{Decoded}
-use Rattle.rules.specs.declared.records.Decoded.TheVariants.{Well, Ill}
 
 -- "lines others drive: data 8, parity 1, RST, CD, IO, MSG, ATN, SEL, BSY, REQ, ACK (18 low bits, in that order)"
 unfoldable pub lines_of : ℕ → Lines
@@ -32,30 +32,30 @@ abbrev pub offset_limit : ℕ → ℕ
 offset_limit kind = get_or (1 ∷ 32 ∷ 32 ∷ []) kind 1
 
 -- the table of kinds
-abbrev pub event_of : ℕ → ℕ → ℕ → Decoded
+abbrev pub event_of : ℕ → ℕ → ℕ → Option Event
 event_of kind offset payload =
     get_or
-    (Well PowerReset  -- 0: power reset
-    ∷ Well (Write offset payload)  -- 1: register write
-    ∷ Well (Read offset)  -- 2: register read
-    ∷ Well (WordWrite payload)  -- 3: word write at 356h
-    ∷ Well WordRead  -- 4: word read at 356h
-    ∷ Well (Drive (lines_of payload))  -- 5: lines others drive
-    ∷ Well (Ticks payload)  -- 6: ticks of 50 ns
+    (Some PowerReset  -- 0: power reset
+    ∷ Some (Write offset payload)  -- 1: register write
+    ∷ Some (Read offset)  -- 2: register read
+    ∷ Some (WordWrite payload)  -- 3: word write at 356h
+    ∷ Some WordRead  -- 4: word read at 356h
+    ∷ Some (Drive (lines_of payload))  -- 5: lines others drive
+    ∷ Some (Ticks payload)  -- 6: ticks of 50 ns
     ∷ [])
-    kind Ill
+    kind None
 
 unfoldable pub well_formed : ℕ → ℕ → ℕ → Bool
 well_formed kind offset payload = ltb payload (payload_limit kind) && ltb offset (offset_limit kind)
 
-unfoldable pub fields_of : ℕ → ℕ → ℕ → Decoded
-fields_of kind offset payload = cond (well_formed kind offset payload) (event_of kind offset payload) Ill
+unfoldable pub fields_of : ℕ → ℕ → ℕ → Option Event
+fields_of kind offset payload = cond (well_formed kind offset payload) (event_of kind offset payload) None
 
 abbrev pub payload_of : ℕ → ℕ → ℕ → ℕ
 payload_of b1 b2 b3 = (b1 * 256 + b2) * 256 + b3
 
--- "record not 4 bytes or not well formed" is Ill
-unfoldable pub decode : List ℕ → Decoded
+-- "record not 4 bytes or not well formed" is None
+unfoldable pub decode : List ℕ → Option Event
 decode bytes =
     cond (eqb (length bytes) 4)
-    (fields_of (get_or bytes 0 0 / 32) (get_or bytes 0 0 % 32) (payload_of (get_or bytes 1 0) (get_or bytes 2 0) (get_or bytes 3 0))) Ill
+    (fields_of (get_or bytes 0 0 / 32) (get_or bytes 0 0 % 32) (payload_of (get_or bytes 1 0) (get_or bytes 2 0) (get_or bytes 3 0))) None

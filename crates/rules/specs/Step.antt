@@ -1,4 +1,5 @@
 -- The whole step: a state and a record give a new state and an answer.
+use Rattle.std.specs.Prelude.{Option, Some, None}
 use Rattle.std.specs.Prelude.{ℕ, zero, suc, ◌+◌, cond, List, [], ◌∷◌, ◌++◌, eqb, length}
 use Rattle.rules.specs.State.{State, power_reset}
 use Rattle.rules.specs.Records.{decode}
@@ -12,8 +13,6 @@ use Rattle.rules.specs.declared.codes.Code.{Code}
 use Rattle.rules.specs.declared.codes.Code.TheVariants.{Done, Malformed, BeyondLimit}
 use Rattle.rules.specs.declared.records.Event.{Event}
 use Rattle.rules.specs.declared.records.Event.TheVariants.{PowerReset, Write, Read, WordWrite, WordRead, Drive, Ticks}
-use Rattle.rules.specs.declared.records.Decoded.{Decoded}
-use Rattle.rules.specs.declared.records.Decoded.TheVariants.{Well, Ill}
 
 -- an event that ends at once, in this state: no moves, no ACKs, no sent bytes
 unfoldable pub ended : State → Code → ℕ → Stepped
@@ -71,9 +70,9 @@ step_event s WordRead = access s WordRead
 step_event s (Drive lines) = access s (Drive lines)
 step_event s (Ticks n) = ticks_taken n s
 
-unfoldable pub step_decoded : State → Decoded → Stepped
-step_decoded s (Well e) = step_event s e
-step_decoded s Ill = refused s Malformed 0
+unfoldable pub step_decoded : State → Option Event → Stepped
+step_decoded s (Some e) = step_event s e
+step_decoded s None = refused s Malformed 0
 
 -- THE STEP, on the bytes of a record
 unfoldable pub step : State → List ℕ → Stepped

@@ -1,18 +1,20 @@
-// The chip: its components by value. A FIFO's oldest byte stands at 0, and zeros past its count.
+// The chip: its components by value.
+ghost use Rattle.std.specs.Prelude.{◌≡◌};
+ghost use Rattle.rules.specs.Seen.{phase_number};
+
 use crate::records::Lines;
 use crate::registers::Registers;
 
+// Bytes with their count, in fixed memory: the oldest stands at 0, and zeros past the count.
 #[derive(Clone, Copy)]
-pub struct HostFifo {
-    pub bytes: [u8; 128],
+pub struct Fifo<const N: usize> {
+    pub bytes: [u8; N],
     pub count: usize,
 }
 
-#[derive(Clone, Copy)]
-pub struct ScsiFifo {
-    pub bytes: [u8; 8],
-    pub count: usize,
-}
+pub type HostFifo = Fifo<128>;
+
+pub type ScsiFifo = Fifo<8>;
 
 // The data path; ack is the automatic ACK, last the byte last sent.
 #[derive(Clone, Copy)]
@@ -26,7 +28,7 @@ pub struct DataPath {
 }
 
 // The status bits that are kept; PHASEMIS is live and not among them.
-#[derive(Clone, Copy)]
+#[derive(Clone, Copy, Default)]
 pub struct Status {
     pub spiordy: bool,
     pub scsirsti: bool,
@@ -39,7 +41,7 @@ pub struct Status {
 }
 
 // The interrupt latches.
-#[derive(Clone, Copy)]
+#[derive(Clone, Copy, Default)]
 pub struct Latches {
     pub spiordy: bool,
     pub scsirsti: bool,
@@ -56,9 +58,10 @@ pub struct Stack {
     pub pointer: u8,
 }
 
-// R-1: where the sequencer stands; `phase_number` in specs/Seen.antt gives each its number.
-#[derive(Clone, Copy)]
+// R-1: where the sequencer stands; the number of each is `phase_number`'s in specs/Seen.antt.
+#[derive(Clone, Copy, PartialEq, Eq, Default)]
 pub enum Phase {
+    #[default]
     Idle,
     Waiting,
     Arbitrating,
@@ -69,8 +72,16 @@ pub enum Phase {
     Answered,
 }
 
+impl From<Phase> for u8 {
+    ghost from_gives = { λ phase number. number ≡ phase_number phase };
+
+    fn from(phase: Phase) -> u8 {
+        phase as u8
+    }
+}
+
 // SELDO, SELDI and SELINGO of 34Bh and SELTO of 34Ch: the statuses, or their latches.
-#[derive(Clone, Copy)]
+#[derive(Clone, Copy, Default)]
 pub struct Selection {
     pub seldo: bool,
     pub seldi: bool,
@@ -80,7 +91,7 @@ pub struct Selection {
 
 // The sequencer of R-1; ticks: those spent in the phase; noted: 34Bh bit 5 was written while SELDI was 1; selid: the byte that
 // others drove when the chip was last reselected.
-#[derive(Clone, Copy)]
+#[derive(Clone, Copy, Default)]
 pub struct Sequencer {
     pub phase: Phase,
     pub ticks: u32,

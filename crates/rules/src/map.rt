@@ -1,5 +1,5 @@
 // Document 001, Table 4-2: the registers by name. `offset_of` in specs/Map.antt gives each its offset from 340h.
-#[derive(Clone, Copy)]
+#[derive(Clone, Copy, PartialEq, Eq)]
 pub enum Register {
     SCSISEQ,
     SXFRCTL0,
@@ -35,11 +35,4 @@ pub enum Register {
     STACK,
     TEST,
     ID,
-}
-
-// What stands at an offset in one direction: a register, or nothing (code 2).
-#[derive(Clone, Copy)]
-pub enum Mapped {
-    Present(Register),
-    Missing,
 }

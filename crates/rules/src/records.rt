@@ -2,7 +2,7 @@
 use crate::codes::Code;
 
 // The lines that others drive: the payload of kind 5, in its order. `byte` is the eight data lines.
-#[derive(Clone, Copy)]
+#[derive(Clone, Copy, Default)]
 pub struct Lines {
     pub byte: u8,
     pub parity: bool,
@@ -27,13 +27,6 @@ pub enum Event {
     WordRead,
     Drive(Lines),
     Ticks(u32),
-}
-
-// A record of four bytes that is well formed, or not.
-#[derive(Clone, Copy)]
-pub enum Decoded {
-    Well(Event),
-    Ill,
 }
 
 // The fields of an answer, in its order.

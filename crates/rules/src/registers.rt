@@ -1,7 +1,7 @@
 // The stored registers: a bool for each control bit under its name in document 001, reserved bits left out.
 
 // 340h
-#[derive(Clone, Copy)]
+#[derive(Clone, Copy, Default)]
 pub struct Scsiseq {
     pub temodeo: bool,
     pub enselo: bool,
@@ -14,7 +14,7 @@ pub struct Scsiseq {
 }
 
 // 341h; CLRSTCNT and CLRCH act once and are not stored
-#[derive(Clone, Copy)]
+#[derive(Clone, Copy, Default)]
 pub struct Sxfrctl0 {
     pub scsien: bool,
     pub dmaen: bool,
@@ -23,7 +23,7 @@ pub struct Sxfrctl0 {
 }
 
 // 342h
-#[derive(Clone, Copy)]
+#[derive(Clone, Copy, Default)]
 pub struct Sxfrctl1 {
     pub bitbucket: bool,
     pub swrapen: bool,
@@ -35,7 +35,7 @@ pub struct Sxfrctl1 {
 }
 
 // 343h as written
-#[derive(Clone, Copy)]
+#[derive(Clone, Copy, Default)]
 pub struct Scsisig {
     pub cdexp: bool,
     pub ioexp: bool,
@@ -48,21 +48,21 @@ pub struct Scsisig {
 }
 
 // 344h: SXFR is 3 bits, SOFS 4
-#[derive(Clone, Copy)]
+#[derive(Clone, Copy, Default)]
 pub struct Scsirate {
     pub sxfr: u8,
     pub sofs: u8,
 }
 
 // 345h as written: 3 bits each
-#[derive(Clone, Copy)]
+#[derive(Clone, Copy, Default)]
 pub struct Scsiid {
     pub oid: u8,
     pub tid: u8,
 }
 
 // 350h
-#[derive(Clone, Copy)]
+#[derive(Clone, Copy, Default)]
 pub struct Simode0 {
     pub enseldo: bool,
     pub enseldi: bool,
@@ -74,7 +74,7 @@ pub struct Simode0 {
 }
 
 // 351h
-#[derive(Clone, Copy)]
+#[derive(Clone, Copy, Default)]
 pub struct Simode1 {
     pub enseltimo: bool,
     pub enatntarg: bool,
@@ -87,7 +87,7 @@ pub struct Simode1 {
 }
 
 // 352h; RSTFIFO acts once and is not stored
-#[derive(Clone, Copy)]
+#[derive(Clone, Copy, Default)]
 pub struct Dmacntrl0 {
     pub endma: bool,
     pub eightbit: bool,
@@ -99,14 +99,14 @@ pub struct Dmacntrl0 {
 }
 
 // 353h; its pointer stands with the stack
-#[derive(Clone, Copy)]
+#[derive(Clone, Copy, Default)]
 pub struct Dmacntrl1 {
     pub pwrdwn: bool,
     pub enstk32: bool,
 }
 
 // All that is stored by register writes; scsidat is the data latch of 346h
-#[derive(Clone, Copy)]
+#[derive(Clone, Copy, Default)]
 pub struct Registers {
     pub scsiseq: Scsiseq,
     pub sxfrctl0: Sxfrctl0,

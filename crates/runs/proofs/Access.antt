@@ -1,4 +1,5 @@
 -- A step by its outcomes: refused, a power reset, done, or ticks one by one.
+use Rattle.std.specs.Prelude.{Option, Some, None}
 use mathlib.Core.Path.{◌≡◌, refl, sym}
 use mathlib.Core.Bool.{Bool, true, false, ◌||◌, cond}
 use mathlib.Core.List.{List}
@@ -14,8 +15,6 @@ use Rattle.rules.specs.declared.codes.Code.{Code}
 use Rattle.rules.specs.declared.codes.Code.TheVariants.{Done, Malformed, Absent, Shut, NoRoom, NoBytes, BeyondLimit, TestValue}
 use Rattle.rules.specs.declared.records.Event.{Event}
 use Rattle.rules.specs.declared.records.Event.TheVariants.{PowerReset, Write, Read, WordWrite, WordRead, Drive, Ticks}
-use Rattle.rules.specs.declared.records.Decoded.{Decoded}
-use Rattle.rules.specs.declared.records.Decoded.TheVariants.{Well, Ill}
 use Rattle.rules.proofs.Logic.{never, cond_case}
 use Rattle.runs.specs.Comes.{is_refusal, says, may_come}
 
@@ -78,18 +77,18 @@ module _ (R : State → Stepped → Type 0) (none : (s : State) (code : Code) (v
   ticks_law (suc n) s =
       more s (access s (Ticks 1)) (single_ticks n (access s (Ticks 1)).state) (one_tick s) (ticks_law n (access s (Ticks 1)).state)
 
-module _ (s : State) (Q : Decoded → Stepped → Type 0) (stays : (d : Decoded) (code : Code) (value : ℕ) → is_refusal code ≡ true → Q d (refused s code value)) (resets : Q (Well PowerReset) (ended power_reset Done 0)) (goes : (e : Event) → ticks_of e ≡ 0 → is_done (access_code s e) ≡ true → Q (Well e) (done s e)) (ticks : (n : ℕ) → Q (Well (Ticks (suc n))) (single_ticks (suc n) s)) where
-  access_law : (e : Event) → ticks_of e ≡ 0 → Q (Well e) (access s e)
+module _ (s : State) (Q : Option Event → Stepped → Type 0) (stays : (d : Option Event) (code : Code) (value : ℕ) → is_refusal code ≡ true → Q d (refused s code value)) (resets : Q (Some PowerReset) (ended power_reset Done 0)) (goes : (e : Event) → ticks_of e ≡ 0 → is_done (access_code s e) ≡ true → Q (Some e) (done s e)) (ticks : (n : ℕ) → Q (Some (Ticks (suc n))) (single_ticks (suc n) s)) where
+  access_law : (e : Event) → ticks_of e ≡ 0 → Q (Some e) (access s e)
   unfolding access
   access_law e t =
-      cond_case (Q (Well e)) (is_done (access_code s e)) _ _ (goes e t) (λ q. stays (Well e) (access_code s e) (refused_value e) (refusal s e q))
+      cond_case (Q (Some e)) (is_done (access_code s e)) _ _ (goes e t) (λ q. stays (Some e) (access_code s e) (refused_value e) (refusal s e q))
 
-  taken_law : (n : ℕ) → Q (Well (Ticks n)) (ticks_taken n s)
+  taken_law : (n : ℕ) → Q (Some (Ticks n)) (ticks_taken n s)
   unfolding ticks_taken ticks_of
   taken_law zero = access_law (Ticks 0) refl
   taken_law (suc n) = ticks n
 
-  event_law : (e : Event) → Q (Well e) (step_event s e)
+  event_law : (e : Event) → Q (Some e) (step_event s e)
   unfolding step_event ticks_of
   event_law PowerReset = resets
   event_law (Write offset value) = access_law (Write offset value) refl
@@ -99,10 +98,10 @@ module _ (s : State) (Q : Decoded → Stepped → Type 0) (stays : (d : Decoded)
   event_law (Drive lines) = access_law (Drive lines) refl
   event_law (Ticks n) = taken_law n
 
-  decoded_law : (d : Decoded) → Q d (step_decoded s d)
+  decoded_law : (d : Option Event) → Q d (step_decoded s d)
   unfolding step_decoded
-  decoded_law (Well e) = event_law e
-  decoded_law Ill = stays Ill Malformed 0 refl
+  decoded_law (Some e) = event_law e
+  decoded_law None = stays None Malformed 0 refl
 
   -- what holds of a refusal, of a power reset, of an event without ticks that is done, and of ticks one by one holds of the step
   pub step_law : (bytes : List ℕ) → Q (decode bytes) (step s bytes)
@@ -110,14 +109,14 @@ module _ (s : State) (Q : Decoded → Stepped → Type 0) (stays : (d : Decoded)
   step_law bytes = decoded_law (decode bytes)
 
 -- and where the record may come, only an event that is allowed is to be looked at
-module _ (allows : Event → Bool) (power : allows PowerReset ≡ false) (s : State) (Q : Decoded → Stepped → Type 0) (stays : (d : Decoded) (code : Code) (value : ℕ) → is_refusal code ≡ true → Q d (refused s code value)) (goes : (e : Event) → allows e ≡ true → ticks_of e ≡ 0 → is_done (access_code s e) ≡ true → Q (Well e) (done s e)) (ticks : (n : ℕ) → Q (Well (Ticks (suc n))) (single_ticks (suc n) s)) where
-  abbrev Guarded : Decoded → Stepped → Type 0
+module _ (allows : Event → Bool) (power : allows PowerReset ≡ false) (s : State) (Q : Option Event → Stepped → Type 0) (stays : (d : Option Event) (code : Code) (value : ℕ) → is_refusal code ≡ true → Q d (refused s code value)) (goes : (e : Event) → allows e ≡ true → ticks_of e ≡ 0 → is_done (access_code s e) ≡ true → Q (Some e) (done s e)) (ticks : (n : ℕ) → Q (Some (Ticks (suc n))) (single_ticks (suc n) s)) where
+  abbrev Guarded : Option Event → Stepped → Type 0
   Guarded d r = (is_refusal r.code || says allows d) ≡ true → Q d r
 
   unless : (e : Event) → (is_refusal (done s e).code || allows e) ≡ true → allows e ≡ true
   unless e h = rw (done_code s e) at h
 
-  power_out : Guarded (Well PowerReset) (ended power_reset Done 0)
+  power_out : Guarded (Some PowerReset) (ended power_reset Done 0)
   unfolding ended
   power_out h = absurd (never (rw power at h))
 

@@ -1,4 +1,5 @@
 -- The ACKs of a run: the counter is their number, each sends one byte outbound, and the chip drives no other ACK.
+use Rattle.std.specs.Prelude.{Option}
 use mathlib.Core.Path.{◌≡◌, refl, ◌∙◌, ap}
 use mathlib.Core.Bool.{Bool, true, and-false, or-false}
 use mathlib.Core.List.{List, [], ◌∷◌}
@@ -16,7 +17,6 @@ use Rattle.rules.specs.Step.{ended, refused, done, single_ticks, step, after}
 use Rattle.rules.specs.declared.codes.Code.{Code}
 use Rattle.rules.specs.declared.records.Event.{Event}
 use Rattle.rules.specs.declared.records.Event.TheVariants.{Ticks}
-use Rattle.rules.specs.declared.records.Decoded.{Decoded}
 use Rattle.rules.proofs.Logic.{left_true, right_true}
 use Rattle.runs.specs.Comes.{is_refusal, may_come, all_come, along, acks_along}
 use Rattle.runs.specs.Run.{Starts, run_allows, sent_by}
@@ -52,7 +52,7 @@ ack_ticks w =
     record { held = y.held; count = y.count ∙ ap (λ (m : ℕ). m % 16777216) (add_assoc k first.acks rest.acks) })
 
 module _ (w : Bool) (s : State) (h : Held w s.registers) (k : ℕ) (c : s.transfer.counter ≡ k % 16777216) where
-  ack_refused : (d : Decoded) (code : Code) (value : ℕ) → is_refusal code ≡ true → AckStep w k (refused s code value)
+  ack_refused : (d : Option Event) (code : Code) (value : ℕ) → is_refusal code ≡ true → AckStep w k (refused s code value)
   unfolding ended
   ack_refused d code value q = record { held = h; count = rw add-zero c }
 
@@ -96,7 +96,7 @@ pair_ticks =
     record { held = y.held; pair = rw (x.pair, y.pair, length-append) })
 
 module _ (s : State) (h : Held true s.registers) where
-  pair_refused : (d : Decoded) (code : Code) (value : ℕ) → is_refusal code ≡ true → PairStep (refused s code value)
+  pair_refused : (d : Option Event) (code : Code) (value : ℕ) → is_refusal code ≡ true → PairStep (refused s code value)
   unfolding ended
   pair_refused d code value q = record { held = h; pair = refl }
 

@@ -1,4 +1,5 @@
 -- The clearing: no byte is sent from the cut to the next start, whatever the order, as long as the paper's condition holds.
+use Rattle.std.specs.Prelude.{Option, Some}
 use mathlib.Core.Path.{◌≡◌, refl, sym, ◌∙◌, ap}
 use mathlib.Core.Bool.{Bool, true, false, not, ◌&&◌, ◌||◌, cond}
 use mathlib.Core.List.{List, [], ◌∷◌, ◌++◌}
@@ -27,8 +28,6 @@ use Rattle.rules.specs.declared.codes.Code.{Code}
 use Rattle.rules.specs.declared.codes.Code.TheVariants.{Done}
 use Rattle.rules.specs.declared.records.Event.{Event}
 use Rattle.rules.specs.declared.records.Event.TheVariants.{PowerReset, Write, Read, WordWrite, WordRead, Drive, Ticks}
-use Rattle.rules.specs.declared.records.Decoded.{Decoded}
-use Rattle.rules.specs.declared.records.Decoded.TheVariants.{Well}
 use Rattle.rules.proofs.InOrder.{b_keeps, acko_stays, scsien_stays}
 use Rattle.rules.proofs.Logic.{never, left_true, right_true}
 use Rattle.runs.specs.Comes.{is_refusal, says, may_come, all_come, unless_refused, along, acks_along}
@@ -168,14 +167,14 @@ empty_ticks n s h k = go s.registers.dmacntrl0.write refl
 
 -- a step in the clearing sends nothing
 module _ (s : State) where
-  abbrev Clears : Decoded → Stepped → Type 0
+  abbrev Clears : Option Event → Stepped → Type 0
   Clears d r = (switched_off r.state || (both_empty s && eqb (length (unless_refused offered d r.code)) 0)) ≡ true → r.sent ≡ []
 
-  clears_refused : (d : Decoded) (code : Code) (value : ℕ) → is_refusal code ≡ true → Clears d (refused s code value)
+  clears_refused : (d : Option Event) (code : Code) (value : ℕ) → is_refusal code ≡ true → Clears d (refused s code value)
   unfolding ended
   clears_refused d code value q h = refl
 
-  clears_reset : Clears (Well PowerReset) (ended power_reset Done 0)
+  clears_reset : Clears (Some PowerReset) (ended power_reset Done 0)
   unfolding ended
   clears_reset h = refl
 
@@ -199,17 +198,17 @@ module _ (s : State) where
       let both = empty_both (left_true (both_empty s) (eqb (length (offered e)) 0) h) in
       empty_sends_none s e (none_of_length (offered e) (right_true (both_empty s) (eqb (length (offered e)) 0) h)) both.0 both.1
 
-  clears_done : (e : Event) → ticks_of e ≡ 0 → is_done (access_code s e) ≡ true → Clears (Well e) (done s e)
+  clears_done : (e : Event) → ticks_of e ≡ 0 → is_done (access_code s e) ≡ true → Clears (Some e) (done s e)
   clears_done e n q h = go (switched_off (done s e).state) refl (rw (done_code s e) at h)
     where
       go : (t : Bool) → switched_off (done s e).state ≡ t → (t || (both_empty s && eqb (length (offered e)) 0)) ≡ true → (done s e).sent ≡ []
       go true k j = off_sends_none e k
       go false k j = empty_done e j
 
-  clears_ticks : (n : ℕ) → Clears (Well (Ticks (suc n))) (single_ticks (suc n) s)
+  clears_ticks : (n : ℕ) → Clears (Some (Ticks (suc n))) (single_ticks (suc n) s)
   clears_ticks n h = go (switched_off (single_ticks (suc n) s).state) refl h
     where
-      go : (t : Bool) → switched_off (single_ticks (suc n) s).state ≡ t → (t || (both_empty s && eqb (length (unless_refused offered (Well (Ticks (suc n))) (single_ticks (suc n) s).code)) 0)) ≡ true → (single_ticks (suc n) s).sent ≡ []
+      go : (t : Bool) → switched_off (single_ticks (suc n) s).state ≡ t → (t || (both_empty s && eqb (length (unless_refused offered (Some (Ticks (suc n))) (single_ticks (suc n) s).code)) 0)) ≡ true → (single_ticks (suc n) s).sent ≡ []
       go true k j =
           let l = ticks_leave_lem (suc n) s in
           l.1 (ap (λ (x : Sxfrctl0). x.scsien) (sym l.0) ∙ off_scsien (single_ticks (suc n) s).state k)
@@ -258,7 +257,7 @@ module _ (s : State) (o : switched_off s ≡ true) where
   unfolding switched_off
   off_ticks n = rw (ticks_leave_lem (suc n) s).0 o
 
-  off_refused : (d : Decoded) (code : Code) (value : ℕ) → is_refusal code ≡ true → switched_off (refused s code value).state ≡ true
+  off_refused : (d : Option Event) (code : Code) (value : ℕ) → is_refusal code ≡ true → switched_off (refused s code value).state ≡ true
   unfolding ended
   off_refused d code value q = o
 
@@ -304,14 +303,14 @@ ack_before s e p =
     s e (λ h. rw (no_automatic_ack s e p) at h)
 
 module _ (s : State) (o : switched_off s ≡ true) (a : s.registers.scsisig.acko ≡ false) where
-  abbrev Silences : Decoded → Stepped → Type 0
+  abbrev Silences : Option Event → Stepped → Type 0
   Silences d r = switched_off r.state ≡ true → (is_refusal r.code || says leaves_acko d) ≡ true → Silent s r.state r.acks
 
-  silent_refused : (d : Decoded) (code : Code) (value : ℕ) → is_refusal code ≡ true → Silences d (refused s code value)
+  silent_refused : (d : Option Event) (code : Code) (value : ℕ) → is_refusal code ≡ true → Silences d (refused s code value)
   unfolding ended
   silent_refused d code value q h k = record { none = refl; off = o; acko = a; ack = λ t. t }
 
-  silent_reset : Silences (Well PowerReset) (ended power_reset Done 0)
+  silent_reset : Silences (Some PowerReset) (ended power_reset Done 0)
   unfolding ended power_reset
   silent_reset h k = record { none = refl; off = h; acko = refl; ack = λ t. absurd (never t) }
 

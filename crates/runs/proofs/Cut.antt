@@ -1,4 +1,5 @@
 -- The cut: after it nothing is sent and the counter stays, so that the three reads give the number of bytes taken.
+use Rattle.std.specs.Prelude.{Option, Some, None}
 use mathlib.Core.Path.{◌≡◌, refl, sym, ◌∙◌, ap}
 use mathlib.Core.Bool.{Bool, true, false, not, ◌&&◌, ◌||◌, cond}
 use mathlib.Core.List.{List, [], ◌∷◌, ◌++◌, append-nil}
@@ -27,11 +28,8 @@ use Rattle.rules.specs.declared.codes.Code.{Code}
 use Rattle.rules.specs.declared.codes.Code.TheVariants.{Done, Malformed, Absent, Shut, NoRoom, NoBytes, BeyondLimit, TestValue}
 use Rattle.rules.specs.declared.map.Register.{Register}
 use Rattle.rules.specs.declared.map.Register.TheVariants.{SXFRCTL0, STCNT0, STCNT1, STCNT2}
-use Rattle.rules.specs.declared.map.Mapped.TheVariants.{Present}
 use Rattle.rules.specs.declared.records.Event.{Event}
 use Rattle.rules.specs.declared.records.Event.TheVariants.{PowerReset, Write, Read, WordWrite, WordRead, Drive, Ticks}
-use Rattle.rules.specs.declared.records.Decoded.{Decoded}
-use Rattle.rules.specs.declared.records.Decoded.TheVariants.{Well, Ill}
 use Rattle.rules.proofs.InOrder.{scsien_stays}
 use Rattle.rules.proofs.Logic.{never, left_true, right_true}
 use Rattle.runs.specs.Comes.{is_refusal, says, may_come, all_come, along}
@@ -96,7 +94,7 @@ quiet_ticks w =
     record { off = b.off; held = b.held; same = b.same ∙ a.same; none = rw a.none b.none })
 
 module _ (w : Bool) (s : State) (o : s.registers.sxfrctl0.scsien ≡ false) (h : Held w s.registers) where
-  calm_refused : (d : Decoded) (code : Code) (value : ℕ) → is_refusal code ≡ true → Quiet w s (refused s code value).state (refused s code value).sent
+  calm_refused : (d : Option Event) (code : Code) (value : ℕ) → is_refusal code ≡ true → Quiet w s (refused s code value).state (refused s code value).sent
   unfolding ended
   calm_refused d code value q = record { off = o; held = h; same = refl; none = refl }
 
@@ -149,18 +147,18 @@ done_is_no_refusal BeyondLimit h q = never h
 done_is_no_refusal TestValue h q = never h
 
 module _ (w : Bool) (s : State) (h : Held w s.registers) where
-  abbrev Stops : Decoded → Stepped → Type 0
+  abbrev Stops : Option Event → Stepped → Type 0
   Stops d r = says is_cut d ≡ true → is_done r.code ≡ true → Quiet w s r.state r.sent
 
-  cut_refused : (d : Decoded) (code : Code) (value : ℕ) → is_refusal code ≡ true → Stops d (refused s code value)
+  cut_refused : (d : Option Event) (code : Code) (value : ℕ) → is_refusal code ≡ true → Stops d (refused s code value)
   unfolding ended
   cut_refused d code value q k c = absurd (done_is_no_refusal code c q)
 
-  cut_reset : Stops (Well PowerReset) (ended power_reset Done 0)
+  cut_reset : Stops (Some PowerReset) (ended power_reset Done 0)
   unfolding is_cut writes
   cut_reset k c = absurd (never k)
 
-  cut_ticks : (n : ℕ) → Stops (Well (Ticks (suc n))) (single_ticks (suc n) s)
+  cut_ticks : (n : ℕ) → Stops (Some (Ticks (suc n))) (single_ticks (suc n) s)
   unfolding is_cut writes
   cut_ticks n k c = absurd (never k)
 
@@ -170,15 +168,15 @@ module _ (w : Bool) (s : State) (h : Held w s.registers) where
       step_law s Stops cut_refused cut_reset (λ e t q k c. done_quiet w s e (spared e (cut_allowed e k)) h (cut_a s e k)) cut_ticks bytes k (ap is_done c)
 
 -- a done read gives what the register reads
-module _ (r : Register) (there : read_at (offset_of r) ≡ Present r) (s : State) where
-  abbrev Gives : Decoded → Stepped → Type 0
+module _ (r : Register) (there : read_at (offset_of r) ≡ Some r) (s : State) where
+  abbrev Gives : Option Event → Stepped → Type 0
   Gives d x = is_done x.code ≡ true → says (λ e. reads e r) d ≡ true → x.value ≡ read_of s r
 
-  gives_refused : (d : Decoded) (code : Code) (value : ℕ) → is_refusal code ≡ true → Gives d (refused s code value)
+  gives_refused : (d : Option Event) (code : Code) (value : ℕ) → is_refusal code ≡ true → Gives d (refused s code value)
   unfolding ended
   gives_refused d code value q c k = absurd (done_is_no_refusal code c q)
 
-  gives_reset : Gives (Well PowerReset) (ended power_reset Done 0)
+  gives_reset : Gives (Some PowerReset) (ended power_reset Done 0)
   unfolding reads
   gives_reset c k = absurd (never k)
 
@@ -192,11 +190,11 @@ module _ (r : Register) (there : read_at (offset_of r) ≡ Present r) (s : State
   gives_value (Drive lines) k = absurd (never k)
   gives_value (Ticks n) k = absurd (never k)
 
-  gives_done : (e : Event) → ticks_of e ≡ 0 → is_done (access_code s e) ≡ true → Gives (Well e) (done s e)
+  gives_done : (e : Event) → ticks_of e ≡ 0 → is_done (access_code s e) ≡ true → Gives (Some e) (done s e)
   unfolding done
   gives_done e t q c k = gives_value e k
 
-  gives_ticks : (n : ℕ) → Gives (Well (Ticks (suc n))) (single_ticks (suc n) s)
+  gives_ticks : (n : ℕ) → Gives (Some (Ticks (suc n))) (single_ticks (suc n) s)
   unfolding reads
   gives_ticks n c k = absurd (never k)
 
@@ -204,7 +202,7 @@ module _ (r : Register) (there : read_at (offset_of r) ≡ Present r) (s : State
   read_gives = step_law s Gives gives_refused gives_reset gives_done gives_ticks
 
 -- the first done read of a byte of the counter, whatever calm records come before it
-module _ (w : Bool) (r : Register) (k : ℕ) (there : read_at (offset_of r) ≡ Present r) (byte : (s : State) → read_of s r ≡ counter_byte k s.transfer.counter) where
+module _ (w : Bool) (r : Register) (k : ℕ) (there : read_at (offset_of r) ≡ Some r) (byte : (s : State) → read_of s r ≡ counter_byte k s.transfer.counter) where
   abbrev First : List ℕ → ℕ → Type 0
   First answers counter = 0 < length answers → get_or answers 0 0 ≡ counter_byte k counter
 
@@ -247,9 +245,9 @@ or_more false b c f h = f h
 pub both_true : (a b : Bool) → a ≡ true → b ≡ true → (a && b) ≡ true
 both_true a b p q = rw (p, q)
 
-says_more : (p q : Event → Bool) → ((e : Event) → p e ≡ true → q e ≡ true) → (d : Decoded) → says p d ≡ true → says q d ≡ true
-says_more p q f (Well e) h = f e h
-says_more p q f Ill h = h
+says_more : (p q : Event → Bool) → ((e : Event) → p e ≡ true → q e ≡ true) → (d : Option Event) → says p d ≡ true → says q d ≡ true
+says_more p q f (Some e) h = f e h
+says_more p q f None h = h
 
 comes_more : (p q : Event → Bool) → ((e : Event) → p e ≡ true → q e ≡ true) → (s : State) (bytes : List ℕ) → may_come p s bytes ≡ true → may_come q s bytes ≡ true
 unfolding may_come

@@ -1,4 +1,5 @@
 -- What a driver knows holds of the chip: through the edges and settling, so through every record, and with it the start of a run.
+use Rattle.std.specs.Prelude.{Option, Some, None}
 use mathlib.Core.Path.{◌≡◌, refl, sym, ap, subst, ◌∙◌}
 use mathlib.Core.Bool.{Bool, true, false, not, ◌&&◌, ◌||◌, cond, and-false, or-true}
 use mathlib.Core.List.{List, [], ◌∷◌}
@@ -27,8 +28,6 @@ use Rattle.rules.specs.declared.map.Register.{Register}
 use Rattle.rules.specs.declared.map.Register.TheVariants.{SCSISEQ, SXFRCTL0, SCSISIGO, DMACNTRL0, DMADATA}
 use Rattle.rules.specs.declared.records.Event.{Event}
 use Rattle.rules.specs.declared.records.Event.TheVariants.{PowerReset, Write, Read, WordWrite, WordRead, Drive, Ticks}
-use Rattle.rules.specs.declared.records.Decoded.{Decoded}
-use Rattle.rules.specs.declared.records.Decoded.TheVariants.{Well, Ill}
 use Rattle.rules.proofs.InOrder.{Apart, before_req, after_req, b_leaves, req_leaves, scsien_stays, acko_stays, ioexp_stays}
 use Rattle.rules.proofs.Logic.{never, left_true, right_true, cond_case}
 use Rattle.rules.proofs.Refusals.{no_rise}
@@ -415,19 +414,19 @@ unfolding single_ticks
 single_code n s = refl
 
 -- EVERY RECORD
-pub refused_known : (k : Known) (d : Decoded) (answered : ℕ) → learned_by true k d answered ≡ k
-refused_known k (Well e) answered = refl
-refused_known k Ill answered = refl
+pub refused_known : (k : Known) (d : Option Event) (answered : ℕ) → learned_by true k d answered ≡ k
+refused_known k (Some e) answered = refl
+refused_known k None answered = refl
 
 module _ (k : Known) (s : State) (i : Holds k s) where
-  abbrev Learns : Decoded → Stepped → Type 0
+  abbrev Learns : Option Event → Stepped → Type 0
   Learns d r = Sound (learned_by (is_refusal r.code) k d r.value) r
 
-  learns_refused : (d : Decoded) (code : Code) (value : ℕ) → is_refusal code ≡ true → Learns d (refused s code value)
+  learns_refused : (d : Option Event) (code : Code) (value : ℕ) → is_refusal code ≡ true → Learns d (refused s code value)
   unfolding ended
   learns_refused d code value q = rw (q, refused_known k d value) (record { holds = i; silent = λ h. refl })
 
-  learns_reset : Learns (Well PowerReset) (ended power_reset Done 0)
+  learns_reset : Learns (Some PowerReset) (ended power_reset Done 0)
   unfolding ended
   learns_reset = record { holds = holds_nothing power_reset; silent = λ h. refl }
 
@@ -441,12 +440,12 @@ module _ (k : Known) (s : State) (i : Holds k s) where
   learns_event (Drive lines) = sound_done k s (Drive lines) i
   learns_event (Ticks n) = sound_done k s (Ticks n) i
 
-  learns_done : (e : Event) → ticks_of e ≡ 0 → is_done (access_code s e) ≡ true → Learns (Well e) (done s e)
+  learns_done : (e : Event) → ticks_of e ≡ 0 → is_done (access_code s e) ≡ true → Learns (Some e) (done s e)
   unfolding done
   learns_done e t q =
-      subst (λ (x : Bool). Sound (learned_by x k (Well e) (value_read s e)) (done s e)) (sym (done_code s e)) (learns_event e)
+      subst (λ (x : Bool). Sound (learned_by x k (Some e) (value_read s e)) (done s e)) (sym (done_code s e)) (learns_event e)
 
-  learns_ticks : (n : ℕ) → Learns (Well (Ticks (suc n))) (single_ticks (suc n) s)
+  learns_ticks : (n : ℕ) → Learns (Some (Ticks (suc n))) (single_ticks (suc n) s)
   learns_ticks n =
       let r = single_ticks (suc n) s in
       rw (single_code n s, one_tick k (suc n) r.value, same_ticks (suc n) k) (ticks_sound (suc n) s k i)
@@ -536,10 +535,10 @@ module _ (k : Known) where
   offers_known (Drive lines) answered h = refl
   offers_known (Ticks n) answered h = refl
 
-  accepts_known : (t : Bool) (d : Decoded) (answered : ℕ) → (learned_by t k d answered).host ≡ true → cond t [] (event_bytes offered d) ≡ []
+  accepts_known : (t : Bool) (d : Option Event) (answered : ℕ) → (learned_by t k d answered).host ≡ true → cond t [] (event_bytes offered d) ≡ []
   accepts_known true d answered h = refl
-  accepts_known false (Well e) answered h = offers_known e answered h
-  accepts_known false Ill answered h = refl
+  accepts_known false (Some e) answered h = offers_known e answered h
+  accepts_known false None answered h = refl
 
   empty_known : (s : State) → Holds k s → known_empty k ≡ true → both_empty s ≡ true
   unfolding both_empty

@@ -1,4 +1,5 @@
 -- A read run: at every moment the bytes read by the host, then the host FIFO, then the SCSI FIFO, are what the chip took.
+use Rattle.std.specs.Prelude.{Option, Some}
 use mathlib.Core.Path.{◌≡◌, refl, sym, ◌∙◌, ap, ap₂}
 use mathlib.Core.Bool.{Bool, true, false, cond}
 use mathlib.Core.List.{List, [], ◌∷◌, ◌++◌, append_assoc, append-nil}
@@ -24,8 +25,6 @@ use Rattle.rules.specs.declared.codes.Code.{Code}
 use Rattle.rules.specs.declared.codes.Code.TheVariants.{Done}
 use Rattle.rules.specs.declared.records.Event.{Event}
 use Rattle.rules.specs.declared.records.Event.TheVariants.{PowerReset, Write, Read, WordWrite, WordRead, Drive, Ticks}
-use Rattle.rules.specs.declared.records.Decoded.{Decoded}
-use Rattle.rules.specs.declared.records.Decoded.TheVariants.{Well}
 use Rattle.rules.proofs.Logic.{never, cond_case}
 use Rattle.rules.proofs.Ranges.{bytes_take}
 use Rattle.runs.specs.Comes.{is_refusal, says, may_come, all_come, event_bytes, unless_refused, along}
@@ -89,10 +88,10 @@ done_moment s e a b p k i =
     regroup b x y z t = simp append_assoc
 
 -- a tick, refused or done, and ticks one by one
-tick_moment : (s : State) (a b : List ℕ) → ReadMoment s a b → ReadMoment (access s (Ticks 1)).state (a ++ unless_refused (took s) (Well (Ticks 1)) (access s (Ticks 1)).code) b
+tick_moment : (s : State) (a b : List ℕ) → ReadMoment s a b → ReadMoment (access s (Ticks 1)).state (a ++ unless_refused (took s) (Some (Ticks 1)) (access s (Ticks 1)).code) b
 unfolding access ended asked
 tick_moment s a b i =
-    cond_case (λ (r : Stepped). ReadMoment r.state (a ++ unless_refused (took s) (Well (Ticks 1)) r.code) b) (is_done (access_code s (Ticks 1))) _ _
+    cond_case (λ (r : Stepped). ReadMoment r.state (a ++ unless_refused (took s) (Some (Ticks 1)) r.code) b) (is_done (access_code s (Ticks 1))) _ _
     (λ q. rw (done_code s (Ticks 1)) (rw (append-nil b) at (done_moment s (Ticks 1) a b (spared (Ticks 1) refl) (passed s (Ticks 1) q) i)))
     (λ q. rw (refusal s (Ticks 1) q, append-nil a) i)
 
@@ -100,7 +99,7 @@ ticks_moment : (n : ℕ) (s : State) (a b : List ℕ) → ReadMoment s a b → R
 unfolding single_ticks ended took_in_ticks
 ticks_moment zero s a b i = rw (append-nil a) i
 ticks_moment (suc n) s a b i =
-    let first = unless_refused (took s) (Well (Ticks 1)) (access s (Ticks 1)).code in
+    let first = unless_refused (took s) (Some (Ticks 1)) (access s (Ticks 1)).code in
     rw (← append_assoc a first (took_in_ticks n (access s (Ticks 1)).state))
     (ticks_moment n (access s (Ticks 1)).state (a ++ first) b (tick_moment s a b i))
 
@@ -116,18 +115,18 @@ took_once s (Drive lines) t = refl
 took_once s (Ticks n) t = rw t
 
 module _ (s : State) (a b : List ℕ) (i : ReadMoment s a b) where
-  abbrev Next : Decoded → Stepped → Type 0
+  abbrev Next : Option Event → Stepped → Type 0
   Next d r =
       ReadMoment r.state (a ++ unless_refused (took_in_event s) d r.code) (b ++ unless_refused (λ e. take (asked e) s.transfer.host) d r.code)
 
-  next_refused : (d : Decoded) (code : Code) (value : ℕ) → is_refusal code ≡ true → Next d (refused s code value)
+  next_refused : (d : Option Event) (code : Code) (value : ℕ) → is_refusal code ≡ true → Next d (refused s code value)
   unfolding ended
   next_refused d code value q = rw (q, append-nil a, append-nil b) i
 
-  next_done : (e : Event) → run_allows e ≡ true → ticks_of e ≡ 0 → is_done (access_code s e) ≡ true → Next (Well e) (done s e)
+  next_done : (e : Event) → run_allows e ≡ true → ticks_of e ≡ 0 → is_done (access_code s e) ≡ true → Next (Some e) (done s e)
   next_done e h t q = rw (done_code s e, took_once s e t) (done_moment s e a b (spared e h) (passed s e q) i)
 
-  next_ticks : (n : ℕ) → Next (Well (Ticks (suc n))) (single_ticks (suc n) s)
+  next_ticks : (n : ℕ) → Next (Some (Ticks (suc n))) (single_ticks (suc n) s)
   unfolding single_ticks asked took_by_ticks
   next_ticks n = rw (append-nil b) (ticks_moment (suc n) s a b i)
 
@@ -156,14 +155,14 @@ front_value_2 (a ∷ []) h = absurd (omega arith)
 front_value_2 (a ∷ b ∷ l) h = omega arith
 
 module _ (s : State) where
-  abbrev Answers : Decoded → Stepped → Type 0
+  abbrev Answers : Option Event → Stepped → Type 0
   Answers d r = says port_read d ≡ true → is_refusal r.code ≡ false → r.value ≡ little_endian (unless_refused (λ e. take (asked e) s.transfer.host) d r.code)
 
-  answers_refused : (d : Decoded) (code : Code) (value : ℕ) → is_refusal code ≡ true → Answers d (refused s code value)
+  answers_refused : (d : Option Event) (code : Code) (value : ℕ) → is_refusal code ≡ true → Answers d (refused s code value)
   unfolding ended
   answers_refused d code value q h k = absurd (never (sym k ∙ q))
 
-  answers_reset : Answers (Well PowerReset) (ended power_reset Done 0)
+  answers_reset : Answers (Some PowerReset) (ended power_reset Done 0)
   unfolding port_read
   answers_reset h k = absurd (never h)
 
@@ -185,11 +184,11 @@ module _ (s : State) where
   port_answer (Drive lines) k h = absurd (never h)
   port_answer (Ticks n) k h = absurd (never h)
 
-  answers_ticks : (n : ℕ) → Answers (Well (Ticks (suc n))) (single_ticks (suc n) s)
+  answers_ticks : (n : ℕ) → Answers (Some (Ticks (suc n))) (single_ticks (suc n) s)
   unfolding port_read
   answers_ticks n h k = absurd (never h)
 
-  answers_done : (e : Event) → ticks_of e ≡ 0 → is_done (access_code s e) ≡ true → Answers (Well e) (done s e)
+  answers_done : (e : Event) → ticks_of e ≡ 0 → is_done (access_code s e) ≡ true → Answers (Some e) (done s e)
   unfolding done
   answers_done e t q h k = rw k (port_answer e (passed s e q) h)
 
@@ -225,14 +224,14 @@ asks_few (Drive lines) = omega arith
 asks_few (Ticks n) = omega arith
 
 module _ (s : State) (b : Bytes s.transfer.host) where
-  abbrev Hands : Decoded → Stepped → Type 0
+  abbrev Hands : Option Event → Stepped → Type 0
   Hands d r = is_refusal r.code ≡ false → event_bytes (λ e. low_bytes (asked e) r.value) d ≡ event_bytes (λ e. take (asked e) s.transfer.host) d
 
-  hands_refused : (d : Decoded) (code : Code) (value : ℕ) → is_refusal code ≡ true → Hands d (refused s code value)
+  hands_refused : (d : Option Event) (code : Code) (value : ℕ) → is_refusal code ≡ true → Hands d (refused s code value)
   unfolding ended
   hands_refused d code value q k = absurd (never (sym k ∙ q))
 
-  hands_reset : Hands (Well PowerReset) (refused power_reset Done 0)
+  hands_reset : Hands (Some PowerReset) (refused power_reset Done 0)
   unfolding asked
   hands_reset k = refl
 
@@ -250,11 +249,11 @@ module _ (s : State) (b : Bytes s.transfer.host) where
           ap (λ (v : ℕ). low_bytes (asked e) v) (port_answer s e k h) ∙ rw size at law
       go false h = rw (asks_none e h)
 
-  hands_ticks : (n : ℕ) → Hands (Well (Ticks (suc n))) (single_ticks (suc n) s)
+  hands_ticks : (n : ℕ) → Hands (Some (Ticks (suc n))) (single_ticks (suc n) s)
   unfolding asked
   hands_ticks n k = refl
 
-  hands_done : (e : Event) → ticks_of e ≡ 0 → is_done (access_code s e) ≡ true → Hands (Well e) (done s e)
+  hands_done : (e : Event) → ticks_of e ≡ 0 → is_done (access_code s e) ≡ true → Hands (Some e) (done s e)
   unfolding done
   hands_done e t q k = hands_event e (passed s e q)
 

@@ -1,4 +1,5 @@
 -- The concrete clearing reaches the start of a run, whatever the lines are.
+use Rattle.std.specs.Prelude.{Some}
 use mathlib.Core.Path.{◌≡◌, refl, sym, ap, ◌∙◌}
 use mathlib.Core.Bool.{Bool, true, false, and-false, or-true}
 use mathlib.Core.List.{List, [], ◌∷◌, append-nil}
@@ -25,7 +26,6 @@ use Rattle.rules.specs.declared.map.Register.{Register}
 use Rattle.rules.specs.declared.map.Register.TheVariants.{SCSISEQ, SXFRCTL0, SCSISIGO, DMACNTRL0}
 use Rattle.rules.specs.declared.records.Event.{Event}
 use Rattle.rules.specs.declared.records.Event.TheVariants.{Write}
-use Rattle.rules.specs.declared.records.Decoded.TheVariants.{Well}
 use Rattle.rules.proofs.InOrder.{Spares, before_req, after_req, Apart, b_leaves, scsien_stays, acko_stays, ioexp_stays}
 use Rattle.rules.proofs.Refusals.{no_rise, not_beyond}
 use Rattle.rules.proofs.StayIdle.{SequencerOff, idle_stays, idle_cleared, reset_idles}
@@ -91,7 +91,7 @@ manual_settles s e m = pathless_settles s e m.dmaen
 
 -- the write of a register that is there, with room in the host FIFO: it is done
 pub record Plain (r : Register) (value : ℕ) : Type 0 where
-  pub decoded : decode (write_record r value) ≡ Well (Write (offset_of r) value)
+  pub decoded : decode (write_record r value) ≡ Some (Write (offset_of r) value)
   pub present : absent (Write (offset_of r) value) ≡ false
   pub untested : test_value (Write (offset_of r) value) ≡ false
   pub portless : (registers : Registers) → shut registers (Write (offset_of r) value) ≡ false

@@ -1,4 +1,5 @@
 -- R-1: the sequencer is idle, and 340h bits 6-4 are clear, at every moment of a run.
+use Rattle.std.specs.Prelude.{Option}
 use mathlib.Core.Path.{◌≡◌, refl}
 use mathlib.Core.Bool.{Bool, true, false}
 use mathlib.Core.List.{List, [], ◌∷◌}
@@ -11,7 +12,6 @@ use Rattle.rules.specs.declared.codes.Code.{Code}
 use Rattle.rules.specs.declared.map.Register.TheVariants.{SCSISEQ}
 use Rattle.rules.specs.declared.records.Event.{Event}
 use Rattle.rules.specs.declared.records.Event.TheVariants.{PowerReset, Ticks}
-use Rattle.rules.specs.declared.records.Decoded.{Decoded}
 use Rattle.rules.proofs.Logic.{left_true, right_true}
 use Rattle.rules.proofs.StayIdle.{SequencerOff, idle_stays}
 use Rattle.runs.specs.Comes.{is_refusal, may_come, all_come}
@@ -34,7 +34,7 @@ off_ticks : (n : ℕ) (s : State) → OffTicks s (single_ticks n s)
 unfolding ended writes
 off_ticks = ticks_law OffTicks (λ s code value o. o) (λ s q. off_done s (Ticks 1) refl) (λ s first rest f g o. g (f o))
 
-off_refused : (s : State) → SequencerOff s → (d : Decoded) (code : Code) (value : ℕ) → is_refusal code ≡ true → SequencerOff (refused s code value).state
+off_refused : (s : State) → SequencerOff s → (d : Option Event) (code : Code) (value : ℕ) → is_refusal code ≡ true → SequencerOff (refused s code value).state
 unfolding ended
 off_refused s o d code value q = o
 

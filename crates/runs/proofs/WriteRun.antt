@@ -1,5 +1,6 @@
 -- A write run: at every moment the bytes sent, then the SCSI FIFO, then the host FIFO, are what the port accepted, and the counter is
 -- the number sent.
+use Rattle.std.specs.Prelude.{Option, Some}
 use mathlib.Core.Path.{◌≡◌, refl, sym, ◌∙◌, ap}
 use mathlib.Core.Bool.{true}
 use mathlib.Core.List.{List, [], ◌++◌, append_assoc, append-nil}
@@ -18,8 +19,6 @@ use Rattle.rules.specs.Step.{ended, refused, done, single_ticks, step, after}
 use Rattle.rules.specs.declared.codes.Code.{Code}
 use Rattle.rules.specs.declared.records.Event.{Event}
 use Rattle.rules.specs.declared.records.Event.TheVariants.{Ticks}
-use Rattle.rules.specs.declared.records.Decoded.{Decoded}
-use Rattle.rules.specs.declared.records.Decoded.TheVariants.{Well}
 use Rattle.runs.specs.Comes.{is_refusal, may_come, all_come, unless_refused, along}
 use Rattle.runs.specs.Run.{Starts, run_allows, accepted, sent_by}
 use Rattle.runs.proofs.Access.{Passed, passed, done_code, ticks_law, come_law}
@@ -80,17 +79,17 @@ ticks_moment =
     (λ s first rest f g a b i. rw (← append_assoc b first.sent rest.sent) (g a (b ++ first.sent) (f a b i)))
 
 module _ (s : State) (a b : List ℕ) (i : WriteMoment s a b) where
-  abbrev Next : Decoded → Stepped → Type 0
+  abbrev Next : Option Event → Stepped → Type 0
   Next d r = WriteMoment r.state (a ++ unless_refused offered d r.code) (b ++ r.sent)
 
-  next_refused : (d : Decoded) (code : Code) (value : ℕ) → is_refusal code ≡ true → Next d (refused s code value)
+  next_refused : (d : Option Event) (code : Code) (value : ℕ) → is_refusal code ≡ true → Next d (refused s code value)
   unfolding ended
   next_refused d code value q = rw (q, append-nil a, append-nil b) i
 
-  next_done : (e : Event) → run_allows e ≡ true → ticks_of e ≡ 0 → is_done (access_code s e) ≡ true → Next (Well e) (done s e)
+  next_done : (e : Event) → run_allows e ≡ true → ticks_of e ≡ 0 → is_done (access_code s e) ≡ true → Next (Some e) (done s e)
   next_done e h t q = rw (done_code s e) (done_moment s e a b (spared e h) (passed s e q) i)
 
-  next_ticks : (n : ℕ) → Next (Well (Ticks (suc n))) (single_ticks (suc n) s)
+  next_ticks : (n : ℕ) → Next (Some (Ticks (suc n))) (single_ticks (suc n) s)
   unfolding single_ticks offered
   next_ticks n = rw (append-nil a) (ticks_moment (suc n) s a b i)
 

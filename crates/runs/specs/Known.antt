@@ -1,5 +1,6 @@
 -- What a driver knows of the chip from its records and the values that its reads got: one fold over events, with no word of the state.
 -- "empties both FIFOs, zeroes counter and offset, and writes 343h with ACKO 0, all with SCSIEN and SPIOEN 0 until both FIFOs are empty"
+use Rattle.std.specs.Prelude.{Option, Some, None}
 use Rattle.std.specs.Prelude.{ℕ, Bool, true, false, not, ◌&&◌, ◌||◌, cond}
 use Rattle.rules.specs.Numbers.{bit}
 use Rattle.rules.specs.Events.{writes, reads, value_of, port_write}
@@ -7,8 +8,6 @@ use Rattle.rules.specs.StepA.{clrstcnt, clrch, rstfifo}
 use Rattle.rules.specs.declared.map.Register.TheVariants.{SCSISEQ, SXFRCTL0, SCSISIGO, SCSIDAT, STCNT0, STCNT1, STCNT2, SSTAT0, DMACNTRL0}
 use Rattle.rules.specs.declared.records.Event.{Event}
 use Rattle.rules.specs.declared.records.Event.TheVariants.{PowerReset, Write, Read, WordWrite, WordRead, Drive, Ticks}
-use Rattle.rules.specs.declared.records.Decoded.{Decoded}
-use Rattle.rules.specs.declared.records.Decoded.TheVariants.{Well, Ill}
 
 -- each is true where the driver knows it; false says nothing of the chip
 pub record Known : Type 0 where
@@ -167,9 +166,9 @@ learned_of k (Drive lines) answered = settled (Drive lines) (own_effect k (Drive
 learned_of k (Ticks n) answered = settled (Ticks n) (own_effect k (Ticks n) answered)
 
 -- WHAT IS KNOWN AFTER A RECORD: a refused one changes nothing, of any other it is what its event leaves known
-abbrev pub learned_by : Bool → Known → Decoded → ℕ → Known
-learned_by is_refused k (Well e) answered = cond is_refused k (learned_of k e answered)
-learned_by is_refused k Ill answered = k
+abbrev pub learned_by : Bool → Known → Option Event → ℕ → Known
+learned_by is_refused k (Some e) answered = cond is_refused k (learned_of k e answered)
+learned_by is_refused k None answered = k
 
 -- "SCSIEN and SPIOEN 0"
 abbrev pub known_off : Known → Bool

@@ -1,4 +1,5 @@
 -- A run: how it starts, what it allows, and the bytes that go in and out.
+use Rattle.std.specs.Prelude.{Some}
 use Rattle.std.specs.Prelude.{ℕ, zero, suc, ◌/◌, ◌%◌, ◌≡◌, Bool, true, false, not, ◌&&◌, ◌||◌, cond, List, [], ◌∷◌, ◌++◌, eqb, take, replicate}
 use Rattle.rules.specs.Numbers.{bit}
 use Rattle.rules.specs.Map.{offset_of}
@@ -13,7 +14,6 @@ use Rattle.rules.specs.declared.map.Register.TheVariants.{SXFRCTL0, CLRSINT0, CL
 use Rattle.rules.specs.declared.chip.Phase.TheVariants.{Idle}
 use Rattle.rules.specs.declared.records.Event.{Event}
 use Rattle.rules.specs.declared.records.Event.TheVariants.{PowerReset, Write, Read, WordWrite, WordRead, Drive, Ticks}
-use Rattle.rules.specs.declared.records.Decoded.TheVariants.{Well}
 use Rattle.runs.specs.Comes.{unless_refused}
 
 -- "A write run starts with FIFOs empty, counter and offset 0, ACKO 0, path with WRITE 1."
@@ -86,7 +86,7 @@ took s e = took_at_req s e ++ took_by_handshakes s e
 unfoldable pub took_in_ticks : ℕ → State → List ℕ
 took_in_ticks zero s = []
 took_in_ticks (suc n) s =
-    unless_refused (took s) (Well (Ticks 1)) (access s (Ticks 1)).code ++ took_in_ticks n (access s (Ticks 1)).state
+    unless_refused (took s) (Some (Ticks 1)) (access s (Ticks 1)).code ++ took_in_ticks n (access s (Ticks 1)).state
 
 unfoldable pub took_by_ticks : ℕ → State → List ℕ
 took_by_ticks zero s = took s (Ticks 0)

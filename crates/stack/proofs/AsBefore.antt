@@ -1,5 +1,6 @@
 -- "READS AND WRITES OF 35Dh AND 353h ANSWER AS BEFORE": the step of an access is an event of 0 ticks, but for the stack, the bits of 353h
 -- and the value, and these are what `stack_accessed` leaves and gives.
+use Rattle.std.specs.Prelude.{Some}
 use Prim.Native.Nat.{ℕ, ◌+◌, ◌%◌, ◌<◌, ◌≤◌}
 use mathlib.Core.Path.{◌≡◌, refl, ap, sym, subst, ◌∙◌}
 use mathlib.Core.Bool.{cond}
@@ -25,7 +26,6 @@ use Rattle.rules.specs.Ranges.{InRange}
 use Rattle.rules.specs.Rest.{AtRest}
 use Rattle.rules.specs.declared.codes.Code.TheVariants.{Done, BeyondLimit}
 use Rattle.rules.specs.declared.chip.Stack.{Stack}
-use Rattle.rules.specs.declared.records.Decoded.TheVariants.{Well}
 use Rattle.rules.specs.declared.records.Event.TheVariants.{Ticks}
 use Rattle.rules.proofs.Refusals.{not_beyond}
 use Rattle.rules.proofs.Ranges.{after_b_fits, always_in_range}
@@ -162,7 +162,7 @@ still_rests s i e =
 payload : (byte : ℕ) → payload_of 0 0 byte ≡ byte
 payload byte = omega arith
 
-pub decode_access : (a : Access) → AccessFits a → decode (access_record a) ≡ Well (access_event a)
+pub decode_access : (a : Access) → AccessFits a → decode (access_record a) ≡ Some (access_event a)
 unfolding decode fields_of well_formed
 decode_access ReadStack f = refl
 decode_access (WriteStack byte) f = rw (payload byte, lt-ltb byte 256 f)

@@ -1,5 +1,7 @@
 -- SO THE BOX MAY HOLD THE STACK APART: for every list of records from power reset a box that does so shows the answers of the chip, byte by
 -- byte, and has that chip once it puts all in one.
+use Rattle.std.specs.Prelude.{Option, Some, None}
+use Rattle.rules.specs.declared.records.Event.{Event}
 use Prim.Native.Nat.{ℕ}
 use mathlib.Core.Path.{◌≡◌, refl, ap, sym, subst, ◌∙◌}
 use mathlib.Core.Bool.{Bool, true, false, cond}
@@ -16,8 +18,6 @@ use Rattle.rules.specs.Step.{ended, step_event, step_decoded, step, answer, afte
 use Rattle.rules.specs.Ranges.{InRange}
 use Rattle.rules.specs.Rest.{AtRest}
 use Rattle.rules.specs.declared.map.Register.TheVariants.{STACK, DMACNTRL1}
-use Rattle.rules.specs.declared.records.Decoded.{Decoded}
-use Rattle.rules.specs.declared.records.Decoded.TheVariants.{Well, Ill}
 use Rattle.rules.specs.declared.records.Event.TheVariants.{PowerReset, Write, Read, WordWrite, WordRead, Drive, Ticks}
 use Rattle.rules.proofs.Ranges.{power_reset_fits, step_in_range}
 use Rattle.rules.proofs.Still.{zero_ticks, power_reset_rests, step_rests}
@@ -29,9 +29,9 @@ use Rattle.stack.proofs.AsBefore.{event_as_before, event_answer}
 use Rattle.stack.proofs.Others.{stack_zero, record_other, answer_other}
 
 -- what the box does tells what the record is
-abbrev Means : Decoded → Doing → Type 0
-Means x (Accesses a) = x ≡ Well (access_event a)
-Means x Resets = x ≡ Well PowerReset
+abbrev Means : Option Event → Doing → Type 0
+Means x (Accesses a) = x ≡ Some (access_event a)
+Means x Resets = x ≡ Some PowerReset
 Means x Steps = elsewhere x ≡ true
 
 -- two tests in a row
@@ -40,22 +40,22 @@ tested P true c x y f g h = f refl
 tested P false true x y f g h = g refl
 tested P false false x y f g h = h refl refl
 
-means : (x : Decoded) → Means x (doing x)
+means : (x : Option Event) → Means x (doing x)
 unfolding doing doing_event touches resets writes reads
-means (Well PowerReset) = refl
-means (Well (Write offset value)) =
-    tested (Means (Well (Write offset value))) (eqb offset (offset_of STACK)) (eqb offset (offset_of DMACNTRL1)) (Accesses (WriteStack value)) (Accesses (WriteDmacntrl1 value))
-    (λ e. ap (λ (n : ℕ). Well (Write n value)) (eqb-true offset (offset_of STACK) e)) (λ e. ap (λ (n : ℕ). Well (Write n value)) (eqb-true offset (offset_of DMACNTRL1) e))
+means (Some PowerReset) = refl
+means (Some (Write offset value)) =
+    tested (Means (Some (Write offset value))) (eqb offset (offset_of STACK)) (eqb offset (offset_of DMACNTRL1)) (Accesses (WriteStack value)) (Accesses (WriteDmacntrl1 value))
+    (λ e. ap (λ (n : ℕ). Some (Write n value)) (eqb-true offset (offset_of STACK) e)) (λ e. ap (λ (n : ℕ). Some (Write n value)) (eqb-true offset (offset_of DMACNTRL1) e))
     (λ e f. rw (e, f))
-means (Well (Read offset)) =
-    tested (Means (Well (Read offset))) (eqb offset (offset_of STACK)) (eqb offset (offset_of DMACNTRL1)) (Accesses ReadStack) (Accesses ReadDmacntrl1)
-    (λ e. ap (λ (n : ℕ). Well (Read n)) (eqb-true offset (offset_of STACK) e)) (λ e. ap (λ (n : ℕ). Well (Read n)) (eqb-true offset (offset_of DMACNTRL1) e))
+means (Some (Read offset)) =
+    tested (Means (Some (Read offset))) (eqb offset (offset_of STACK)) (eqb offset (offset_of DMACNTRL1)) (Accesses ReadStack) (Accesses ReadDmacntrl1)
+    (λ e. ap (λ (n : ℕ). Some (Read n)) (eqb-true offset (offset_of STACK) e)) (λ e. ap (λ (n : ℕ). Some (Read n)) (eqb-true offset (offset_of DMACNTRL1) e))
     (λ e f. rw (e, f))
-means (Well (WordWrite word)) = refl
-means (Well WordRead) = refl
-means (Well (Drive lines)) = refl
-means (Well (Ticks n)) = refl
-means Ill = refl
+means (Some (WordWrite word)) = refl
+means (Some WordRead) = refl
+means (Some (Drive lines)) = refl
+means (Some (Ticks n)) = refl
+means None = refl
 
 -- one record
 record Same (b : Box) (bytes : List ℕ) (w : Doing) : Type 0 where
@@ -71,15 +71,15 @@ module _ (b : Box) (bytes : List ℕ) (i : InRange (whole b)) (r : AtRest (whole
   unfolding boxed box_answer step answer step_decoded step_event ended power_reset
   same (Accesses a) e =
       record {
-        state = ap (λ (x : Decoded). (step_decoded (whole b) x).state) e ∙ ap (λ (x : Stepped). x.state) (event_as_before a (whole b) i r);
+        state = ap (λ (x : Option Event). (step_decoded (whole b) x).state) e ∙ ap (λ (x : Stepped). x.state) (event_as_before a (whole b) i r);
         shown =
-            ap (λ (x : Decoded). answer_bytes (answer_of (step_decoded (whole b) x))) e ∙ event_answer a (whole b) i
+            ap (λ (x : Option Event). answer_bytes (answer_of (step_decoded (whole b) x))) e ∙ event_answer a (whole b) i
             ∙ ap (bytes_with (stack_accessed a b.control b.stack).value) (answer_other b.control b.stack b.chip zero_ticks still_elsewhere);
       }
   same Resets e =
       record {
-        state = ap (λ (x : Decoded). (step_decoded (whole b) x).state) e ∙ sym (ap (λ (x : Decoded). with_apart (dmacntrl1_of 0) stack_zero (step_decoded b.chip x).state) e);
-        shown = ap (λ (x : Decoded). answer_bytes (answer_of (step_decoded (whole b) x))) e ∙ sym (ap (λ (x : Decoded). answer_bytes (answer_of (step_decoded b.chip x))) e);
+        state = ap (λ (x : Option Event). (step_decoded (whole b) x).state) e ∙ sym (ap (λ (x : Option Event). with_apart (dmacntrl1_of 0) stack_zero (step_decoded b.chip x).state) e);
+        shown = ap (λ (x : Option Event). answer_bytes (answer_of (step_decoded (whole b) x))) e ∙ sym (ap (λ (x : Option Event). answer_bytes (answer_of (step_decoded b.chip x))) e);
       }
   same Steps e =
       record {

@@ -1,5 +1,6 @@
 -- NO OTHER RECORD READS OR CHANGES THE STACK OR THE BITS OF 353h, but power reset, which zeroes them: two states that differ in these alone
 -- give the same answer and states that differ in these alone.
+use Rattle.std.specs.Prelude.{Option, Some, None}
 use Prim.Native.Nat.{ℕ, zero, suc}
 use mathlib.Core.Path.{◌≡◌, refl, ap, sym, ◌∙◌}
 use mathlib.Core.Bool.{Bool, true, false, not, ◌&&◌, ◌||◌, cond}
@@ -28,11 +29,7 @@ use Rattle.rules.specs.declared.codes.Code.TheVariants.{Done, BeyondLimit}
 use Rattle.rules.specs.declared.chip.Stack.{Stack}
 use Rattle.rules.specs.declared.map.Register.{Register}
 use Rattle.rules.specs.declared.map.Register.TheVariants.{SCSISEQ, SXFRCTL0, SXFRCTL1, SCSISIGI, SCSISIGO, SCSIRATE, SELID, SCSIID, SCSIDAT, SCSIBUS, STCNT0, STCNT1, STCNT2, SSTAT0, CLRSINT0, SSTAT1, CLRSINT1, SSTAT2, SSTAT3, SCSITEST, SSTAT4, CLRSERR, SIMODE0, SIMODE1, DMACNTRL0, DMACNTRL1, DMASTAT, FIFOSTAT, DMADATA, BRSTCNTRL, REV, STACK, TEST, ID}
-use Rattle.rules.specs.declared.map.Mapped.{Mapped}
-use Rattle.rules.specs.declared.map.Mapped.TheVariants.{Present, Missing}
 use Rattle.rules.specs.declared.registers.Dmacntrl1.{Dmacntrl1}
-use Rattle.rules.specs.declared.records.Decoded.{Decoded}
-use Rattle.rules.specs.declared.records.Decoded.TheVariants.{Well, Ill}
 use Rattle.rules.specs.declared.records.Event.{Event}
 use Rattle.rules.specs.declared.records.Event.TheVariants.{PowerReset, Write, Read, WordWrite, WordRead, Drive, Ticks}
 use Rattle.rules.proofs.Logic.{never}
@@ -173,15 +170,15 @@ module _ (d : Dmacntrl1) (k : Stack) (s : State) where
   read_same TEST f g = refl
 
   -- a read that finds a register is a read of it
-  missed : (offset : ℕ) (r t : Register) → read_at offset ≡ Present r → reads (Read offset) t ≡ false → r ≡ t → ⊥
+  missed : (offset : ℕ) (r t : Register) → read_at offset ≡ Some r → reads (Read offset) t ≡ false → r ≡ t → ⊥
   unfolding reads
   missed offset r t e h same =
       never (sym h ∙ ap (eqb offset) (sym (read_offset offset r e ∙ ap offset_of same)) ∙ eq-eqb offset offset refl)
 
-  mapped_same : (offset : ℕ) (m : Mapped) → read_at offset ≡ m → Away (Read offset) → read_mapped other m ≡ read_mapped s m
-  mapped_same offset (Present r) e a =
+  mapped_same : (offset : ℕ) (m : Option Register) → read_at offset ≡ m → Away (Read offset) → read_mapped other m ≡ read_mapped s m
+  mapped_same offset (Some r) e a =
       read_same r (missed offset r STACK e a.unread) (missed offset r DMACNTRL1 e a.byte)
-  mapped_same offset Missing e a = refl
+  mapped_same offset None e a = refl
 
   value_other : (e : Event) → Away e → value_read other e ≡ value_read s e
   unfolding value_read
@@ -252,13 +249,13 @@ both_not true b h = absurd (never h)
 both_not false true h = absurd (never h)
 both_not false false h = (refl, refl)
 
-decoded_other : (d : Dmacntrl1) (k : Stack) (s : State) (x : Decoded) → elsewhere x ≡ true
+decoded_other : (d : Dmacntrl1) (k : Stack) (s : State) (x : Option Event) → elsewhere x ≡ true
     → step_decoded (with_apart d k s) x ≡ stepped_apart d k (step_decoded s x).value (step_decoded s x)
 unfolding step_decoded ended
-decoded_other d k s (Well e) h =
+decoded_other d k s (Some e) h =
     let p = both_not (touches e) (resets e) h in
     event_other d k s e p.0 p.1
-decoded_other d k s Ill h = refl
+decoded_other d k s None h = refl
 
 pub record_other : (d : Dmacntrl1) (k : Stack) (s : State) (bytes : List ℕ) → elsewhere (decode bytes) ≡ true
     → step (with_apart d k s) bytes ≡ stepped_apart d k (step s bytes).value (step s bytes)

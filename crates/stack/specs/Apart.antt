@@ -1,5 +1,6 @@
 -- R-4: "Our box programmers hold the stack apart from the rest of the chip." The state with a stack and the two bits of 353h put in, the
 -- event and the record of an access to them, and the events that are none.
+use Rattle.std.specs.Prelude.{Option, Some, None}
 use Rattle.std.specs.Prelude.{ℕ, ◌<◌, ◌/◌, ◌%◌, Bool, true, false, not, ◌&&◌, ◌||◌, List, [], ◌∷◌, ◌++◌, take, drop}
 use Rattle.rules.specs.State.{State}
 use Rattle.rules.specs.Changed.{with_registers, with_stack}
@@ -9,8 +10,6 @@ use Rattle.rules.specs.Answers.{Stepped}
 use Rattle.rules.specs.declared.chip.Stack.{Stack}
 use Rattle.rules.specs.declared.map.Register.TheVariants.{STACK, DMACNTRL1}
 use Rattle.rules.specs.declared.records.Answer.{Answer}
-use Rattle.rules.specs.declared.records.Decoded.{Decoded}
-use Rattle.rules.specs.declared.records.Decoded.TheVariants.{Well, Ill}
 use Rattle.rules.specs.declared.records.Event.{Event}
 use Rattle.rules.specs.declared.records.Event.TheVariants.{PowerReset, Write, Read, WordWrite, WordRead, Drive, Ticks}
 use Rattle.rules.specs.declared.registers.Dmacntrl1.{Dmacntrl1}
@@ -101,6 +100,6 @@ resets (Drive lines) = false
 resets (Ticks n) = false
 
 -- does a decoded record neither touch 35Dh and 353h nor reset? One that is not well formed does not
-abbrev pub elsewhere : Decoded → Bool
-elsewhere (Well e) = not (touches e) && not (resets e)
-elsewhere Ill = true
+abbrev pub elsewhere : Option Event → Bool
+elsewhere (Some e) = not (touches e) && not (resets e)
+elsewhere None = true

@@ -1,4 +1,5 @@
 -- R-4: a box that holds the stack apart: what it keeps, and what it does with each record.
+use Rattle.std.specs.Prelude.{Option, Some, None}
 use Rattle.std.specs.Prelude.{ℕ, cond, List, [], ◌∷◌, eqb, replicate}
 use Rattle.rules.specs.State.{State, power_reset}
 use Rattle.rules.specs.Registers.{dmacntrl1_of}
@@ -7,8 +8,6 @@ use Rattle.rules.specs.Map.{offset_of}
 use Rattle.rules.specs.Step.{step, answer}
 use Rattle.rules.specs.declared.chip.Stack.{Stack}
 use Rattle.rules.specs.declared.map.Register.TheVariants.{STACK, DMACNTRL1}
-use Rattle.rules.specs.declared.records.Decoded.{Decoded}
-use Rattle.rules.specs.declared.records.Decoded.TheVariants.{Well, Ill}
 use Rattle.rules.specs.declared.records.Event.{Event}
 use Rattle.rules.specs.declared.records.Event.TheVariants.{PowerReset, Write, Read, WordWrite, WordRead, Drive, Ticks}
 use Rattle.rules.specs.declared.registers.Dmacntrl1.{Dmacntrl1}
@@ -46,9 +45,9 @@ doing_event WordRead = Steps
 doing_event (Drive lines) = Steps
 doing_event (Ticks n) = Steps
 
-unfoldable pub doing : Decoded → Doing
-doing (Well e) = doing_event e
-doing Ill = Steps
+unfoldable pub doing : Option Event → Doing
+doing (Some e) = doing_event e
+doing None = Steps
 
 -- the record of 0 ticks
 abbrev no_ticks : List ℕ

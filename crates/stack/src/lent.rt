@@ -12,6 +12,7 @@ use rules::chip::Stack;
 use rules::registers::Dmacntrl1;
 
 // A read of 35Dh: the byte at the pointer's place.
+#[tactic(auto, using(crate::proofs::Tidied::tidied_byte, crate::proofs::Tidied::tidied_read))]
 pub fn read_stack(enstk32: bool, s: &mut Stack) -> u8
     ensures { (result ≡ stack_byte enstk32 (stack_view s.old)) × (s.new ≡ stack_read enstk32 (stack_view s.old)) }
 {
@@ -21,6 +22,7 @@ pub fn read_stack(enstk32: bool, s: &mut Stack) -> u8
 }
 
 // A write of 35Dh.
+#[tactic(auto, using(crate::proofs::Tidied::tidied_written))]
 pub fn write_stack(enstk32: bool, value: u8, s: &mut Stack)
     ensures { s.new ≡ stack_written enstk32 value (stack_view s.old) }
 {
@@ -28,6 +30,7 @@ pub fn write_stack(enstk32: bool, value: u8, s: &mut Stack)
 }
 
 // A write of 353h: PWRDWN and ENSTK32 come in with the byte and go out by value.
+#[tactic(auto, using(crate::proofs::Tidied::tidied_pointed))]
 pub fn write_dmacntrl1(value: u8, s: &mut Stack) -> Dmacntrl1
     ensures { (result ≡ dmacntrl1_of value) × (s.new ≡ pointed value (stack_view s.old)) }
 {
@@ -60,21 +63,20 @@ pub struct Accessed {
 }
 
 // Any access, by value: it lends its own copy, so that its callers have no reference to a stack.
+#[tactic(auto, unfolding(crate::specs::Accesses::stack_accessed, rules::specs::Chips::stack_view))]
 pub fn stack_accessed(access: Access, control: Dmacntrl1, s: Stack) -> Accessed
     ensures { result ≡ stack_accessed access control s }
 {
-    let mut stack = s;
-    let mut after = control;
-    let mut value = 0;
+    let mut left = Accessed {
+        control,
+        stack: s,
+        value: 0,
+    };
     match access {
-        Access::ReadStack => value = read_stack(control.enstk32, &mut stack),
-        Access::WriteStack(byte) => write_stack(control.enstk32, byte, &mut stack),
-        Access::ReadDmacntrl1 => value = read_dmacntrl1(control, s.pointer),
-        Access::WriteDmacntrl1(byte) => after = write_dmacntrl1(byte, &mut stack),
+        Access::ReadStack => left.value = read_stack(control.enstk32, &mut left.stack),
+        Access::WriteStack(byte) => write_stack(control.enstk32, byte, &mut left.stack),
+        Access::ReadDmacntrl1 => left.value = read_dmacntrl1(control, s.pointer),
+        Access::WriteDmacntrl1(byte) => left.control = write_dmacntrl1(byte, &mut left.stack),
     }
-    Accessed {
-        control: after,
-        stack: stack,
-        value: value,
-    }
+    left
 }

@@ -20,11 +20,11 @@ pub fn place_of(enstk32: bool, pointer: u8) -> u8
 pub fn next_of(enstk32: bool, pointer: u8) -> u8
     ensures { result ≡ (pointer % stack_size enstk32 + 1) % stack_size enstk32 }
 {
-    let at = place_of(enstk32, pointer);
-    place_of(enstk32, at + 1)
+    place_of(enstk32, place_of(enstk32, pointer) + 1)
 }
 
 // The place that 35Dh uses.
+#[tactic(auto, unfolding(rules::specs::Stack::stack_place))]
 pub fn stack_place(enstk32: bool, s: Stack) -> u8
     ensures { result ≡ stack_place enstk32 s }
 {
@@ -32,14 +32,15 @@ pub fn stack_place(enstk32: bool, s: Stack) -> u8
 }
 
 // What a read of 35Dh gives.
+#[tactic(auto, using(crate::proofs::Places::place_lt), unfolding(rules::specs::Stack::stack_byte))]
 pub fn stack_byte(enstk32: bool, s: Stack) -> u8
     ensures { result ≡ stack_byte enstk32 s }
 {
-    let at = stack_place(enstk32, s) as usize;
-    s.bytes[at]
+    s.bytes[usize::from(stack_place(enstk32, s))]
 }
 
 // The pointer after an access to 35Dh.
+#[tactic(auto, unfolding(rules::specs::Stack::pointer_after, rules::specs::Stack::stack_place))]
 pub fn pointer_after(enstk32: bool, s: Stack) -> u8
     ensures { result ≡ pointer_after enstk32 s }
 {
@@ -47,32 +48,33 @@ pub fn pointer_after(enstk32: bool, s: Stack) -> u8
 }
 
 // The stack after a read of 35Dh.
+#[tactic(auto, unfolding(rules::specs::Stack::stack_read))]
 pub fn stack_read(enstk32: bool, s: Stack) -> Stack
     ensures { result ≡ stack_read enstk32 s }
 {
-    let next = pointer_after(enstk32, s);
-    let mut n = s;
-    n.pointer = next;
-    n
+    Stack {
+        pointer: pointer_after(enstk32, s),
+        ..s
+    }
 }
 
 // The stack after a write of 35Dh.
+#[tactic(auto, using(crate::proofs::Places::place_lt), unfolding(rules::specs::Stack::stack_written, rules::specs::Stack::stack_read))]
 pub fn stack_written(enstk32: bool, value: u8, s: Stack) -> Stack
     ensures { result ≡ stack_written enstk32 value s }
 {
-    let at = stack_place(enstk32, s) as usize;
-    let next = pointer_after(enstk32, s);
-    let mut n = s;
-    n.bytes[at] = value;
-    n.pointer = next;
-    n
+    let mut after = stack_read(enstk32, s);
+    after.bytes[usize::from(stack_place(enstk32, s))] = value;
+    after
 }
 
 // The stack after a write of 353h.
+#[tactic(auto, unfolding(rules::specs::Stack::pointed))]
 pub fn pointed(value: u8, s: Stack) -> Stack
     ensures { result ≡ pointed value s }
 {
-    let mut n = s;
-    n.pointer = value % 32;
-    n
+    Stack {
+        pointer: value % 32,
+        ..s
+    }
 }

@@ -4,14 +4,12 @@
 ghost use Rattle.std.specs.Prelude.{◌≡◌, cond, ◌+◌, ◌*◌, ◌%◌};
 ghost use Rattle.rules.specs.Numbers.{one};
 ghost use Rattle.rules.specs.Records.{lines_of, payload_of, fields_of, decode};
-ghost use Rattle.rules.specs.declared.records.Decoded.TheVariants.{Well, Ill};
 ghost use Rattle.rules.specs.Codes.{number_of, refused_value};
 ghost use Rattle.rules.specs.Answers.{answer_bytes};
 
 use laws::bit_of;
-use rules::code_number;
 use rules::codes::Code;
-use rules::records::{ANSWER_SIZE, Answer, Decoded, Event, Lines, RECORD_SIZE};
+use rules::records::{ANSWER_SIZE, Answer, Event, Lines, RECORD_SIZE};
 
 // The 24 bits after kind and offset.
 pub fn payload(b1: u8, b2: u8, b3: u8) -> u32
@@ -27,7 +25,7 @@ fn lines_of(p: u32) -> Lines
 {
     let byte = ((p >> 10) & 255) as u8;
     Lines {
-        byte: byte,
+        byte,
         parity: bit_of(p, 9),
         rst: bit_of(p, 8),
         cd: bit_of(p, 7),
@@ -42,66 +40,66 @@ fn lines_of(p: u32) -> Lines
 }
 
 // Unused bits are 0: an event where the test passes.
-fn well_if(t: bool, e: Event) -> Decoded
-    ensures { result ≡ cond t (Well e) Ill }
+fn well_if(t: bool, e: Event) -> Option<Event>
+    ensures { result ≡ cond t (Some e) None }
 {
-    if t { Decoded::Well(e) } else { Decoded::Ill }
+    if t { Some(e) } else { None }
 }
 
 // Kind 1: a register write.
-fn write_of(offset: u8, p: u32) -> Decoded
+fn write_of(offset: u8, p: u32) -> Option<Event>
     ensures { result ≡ fields_of 1 offset p }
 {
     if (p < 256) & (offset < 32) {
-        Decoded::Well(Event::Write {
-            offset: offset,
+        Some(Event::Write {
+            offset,
             value: p as u8,
         })
     } else {
-        Decoded::Ill
+        None
     }
 }
 
 // Kind 3: a word write at 356h.
-fn word_of(offset: u8, p: u32) -> Decoded
+fn word_of(offset: u8, p: u32) -> Option<Event>
     ensures { result ≡ fields_of 3 offset p }
 {
     if (p < 65536) & (offset < 1) {
-        Decoded::Well(Event::WordWrite(p as u16))
+        Some(Event::WordWrite(p as u16))
     } else {
-        Decoded::Ill
+        None
     }
 }
 
 // Kind 5: lines others drive.
-fn drive_of(offset: u8, p: u32) -> Decoded
+fn drive_of(offset: u8, p: u32) -> Option<Event>
     ensures { result ≡ fields_of 5 offset p }
 {
     if (p < 262144) & (offset < 1) {
-        Decoded::Well(Event::Drive(lines_of(p)))
+        Some(Event::Drive(lines_of(p)))
     } else {
-        Decoded::Ill
+        None
     }
 }
 
 // An event by its three fields: "Unused bits, and the offset except in kinds 1 and 2, are 0. Kind 7 is bad."
-fn fields(kind: u8, offset: u8, p: u32) -> Decoded
+fn fields(kind: u8, offset: u8, p: u32) -> Option<Event>
     ensures { result ≡ fields_of kind offset p }
 {
     match kind {
         0 => well_if((p < 1) & (offset < 1), Event::PowerReset),
         1 => write_of(offset, p),
-        2 => well_if((p < 1) & (offset < 32), Event::Read { offset: offset }),
+        2 => well_if((p < 1) & (offset < 32), Event::Read { offset }),
         3 => word_of(offset, p),
         4 => well_if((p < 1) & (offset < 1), Event::WordRead),
         5 => drive_of(offset, p),
         6 => well_if((p < 16777216) & (offset < 1), Event::Ticks(p)),
-        _ => Decoded::Ill,
+        _ => None,
     }
 }
 
 // The event of a record: its kind in the three high bits of the first byte, its offset in the five low ones.
-pub fn decode(bytes: &[u8]) -> Decoded
+pub fn decode(bytes: &[u8]) -> Option<Event>
     ensures { result ≡ decode bytes.now }
 {
     if bytes.len() == RECORD_SIZE {
@@ -109,7 +107,7 @@ pub fn decode(bytes: &[u8]) -> Decoded
         let p = payload(bytes[1], bytes[2], bytes[3]);
         fields(first >> 5, first & 31, p)
     } else {
-        Decoded::Ill
+        None
     }
 }
 
@@ -135,7 +133,7 @@ pub fn refused_value(e: Event) -> u16
 fn code_byte(code: Code, irq: bool, acks: u8) -> u8
     ensures { result ≡ (number_of code * 2 + one irq) * 16 + acks % 16 }
 {
-    let high = (code_number(code) << 1) | (irq as u8);
+    let high = (u8::from(code) << 1) | (irq as u8);
     (high << 4) | (acks & 15)
 }
 
@@ -159,9 +157,8 @@ fn offset_byte(offset: u8, scsi: u8) -> u8
 pub fn answer_bytes(a: Answer) -> [u8; ANSWER_SIZE]
     ensures { result ≡ answer_bytes a }
 {
-    let code = a.code;
     let sent = a.sent;
-    let first = code_byte(code, a.irq, a.acks);
+    let first = code_byte(a.code, a.irq, a.acks);
     let second = moves_byte(a.moves, a.driving, a.rst, a.parity);
     let high = (a.value >> 8) as u8;
     let low = (a.value & 255) as u8;

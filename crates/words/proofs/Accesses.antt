@@ -1,4 +1,5 @@
 -- What a word access gives: refused, the chip as it was; or done.
+use Rattle.std.specs.Prelude.{Some}
 use Prim.Native.Nat.{ℕ, ◌+◌, ◌*◌, ◌/◌, ◌%◌, ◌<◌, ◌≤◌}
 use mathlib.Core.Path.{◌≡◌, refl, sym, ◌∙◌, ap}
 use mathlib.Core.Bool.{Bool, true, false, not, ◌||◌, cond, beq}
@@ -13,7 +14,6 @@ use Rattle.rules.specs.Events.{writes, offered, asked, wide, port_write, port_re
 use Rattle.rules.specs.Codes.{absent, test_value, shut, no_room, no_bytes, access_code, refused_value, is_done, is_refusal}
 use Rattle.rules.specs.Step.{refused, done, access, step_event, step_decoded, step}
 use Rattle.rules.specs.declared.registers.Registers.{Registers}
-use Rattle.rules.specs.declared.records.Decoded.TheVariants.{Well}
 use Rattle.rules.specs.declared.records.Event.TheVariants.{WordWrite, WordRead}
 use Rattle.rules.specs.declared.codes.Code.{Code}
 use Rattle.rules.specs.declared.codes.Code.TheVariants.{Done, Shut, NoRoom, NoBytes}
@@ -23,7 +23,7 @@ use Rattle.words.specs.Words.{word_write, word_read}
 payload : (low high : ℕ) → payload_of 0 high low ≡ high * 256 + low
 payload low high = omega arith
 
-pub decode_write : (low high : ℕ) → low < 256 → high < 256 → decode (word_write low high) ≡ Well (WordWrite (high * 256 + low))
+pub decode_write : (low high : ℕ) → low < 256 → high < 256 → decode (word_write low high) ≡ Some (WordWrite (high * 256 + low))
 unfolding decode fields_of well_formed
 decode_write low high a b = rw (payload low high, lt-ltb (high * 256 + low) 65536 (omega arith))
 

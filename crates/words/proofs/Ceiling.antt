@@ -1,4 +1,5 @@
 -- R-12: how many moves a string transfer makes at most, over every state in range.
+use Rattle.std.specs.Prelude.{Option, Some, None}
 use Prim.Native.Nat.{ℕ, zero, suc, ◌+◌, ◌*◌, ◌<◌, ◌≤◌}
 use mathlib.Core.Path.{◌≡◌, refl, ap}
 use mathlib.Core.Bool.{Bool, true, false, not, ◌&&◌, cond}
@@ -16,8 +17,6 @@ use Rattle.rules.specs.Answers.{Stepped}
 use Rattle.rules.specs.Step.{ended, done, access, step_event, step_decoded, step, after}
 use Rattle.rules.specs.declared.codes.Code.{Code}
 use Rattle.rules.specs.declared.codes.Code.TheVariants.{Malformed}
-use Rattle.rules.specs.declared.records.Decoded.{Decoded}
-use Rattle.rules.specs.declared.records.Decoded.TheVariants.{Well, Ill}
 use Rattle.rules.specs.declared.records.Event.{Event}
 use Rattle.rules.specs.declared.records.Event.TheVariants.{WordWrite, WordRead}
 use Rattle.rules.proofs.Logic.{left_true, cond_case}
@@ -76,7 +75,7 @@ module _ (P : State → Type 0) (keeps : (s : State) (bytes : List ℕ) → P s 
   unfolding step step_decoded step_event decode fields_of well_formed
   paid_write f low high s p =
       let word = payload_of 0 high low in
-      cond_case (λ (d : Decoded). Paid s (step_decoded s d)) (ltb word 65536 && true) (Well (WordWrite word)) Ill
+      cond_case (λ (d : Option Event). Paid s (step_decoded s d)) (ltb word 65536 && true) (Some (WordWrite word)) None
       (λ t. paid_access s (WordWrite word) (f s word (ltb-true word 65536 (left_true (ltb word 65536) true t)) p))
       (λ t. paid_ended s Malformed 0)
 

@@ -1,4 +1,6 @@
 -- Each arm computes the table at its key; the rest lies in 25..=27 or is past the table.
+use Rattle.std.specs.Prelude.{Option, None}
+use Rattle.rules.specs.declared.map.Register.{Register}
 use borrow.Author.Tests.{ltb-true, ltb-false}
 use native.Mathlib.Omega.{arith}
 use mathlib.Core.Path.{◌≡◌, refl, sym, ◌∙◌}
@@ -6,27 +8,25 @@ use mathlib.Core.Bool.{Bool, true, false, cond}
 use Prim.Native.Nat.{ℕ, ◌≤◌, ◌<◌}
 use lib.Dec.{ltb}
 use Rattle.rules.specs.Map.{table, read_at, written_at}
-use Rattle.rules.specs.declared.map.Mapped.{Mapped}
-use Rattle.rules.specs.declared.map.Mapped.TheVariants.{Missing}
 use Rattle.laws.proofs.Tables.{in_range, none_below, climb}
 use Rattle.map.specs.Directions.{mapped_at}
 use Rattle.map.proofs.Offsets.{past}
 use Rattle.map.proofs.register_at.Goals as goal
 
 -- the same in both directions
-either : (w : Bool) (x : ℕ) {m : Mapped} → m ≡ read_at x → m ≡ written_at x → m ≡ mapped_at w x
+either : (w : Bool) (x : ℕ) {m : Option Register} → m ≡ read_at x → m ≡ written_at x → m ≡ mapped_at w x
 either true x r s = s
 either false x r s = r
 
 -- what the side of an access holds
-sided : (w : Bool) (x : ℕ) {m a b : Mapped} → m ≡ cond w a b → a ≡ written_at x → b ≡ read_at x → m ≡ mapped_at w x
+sided : (w : Bool) (x : ℕ) {m a b : Option Register} → m ≡ cond w a b → a ≡ written_at x → b ≡ read_at x → m ≡ mapped_at w x
 sided true x e r s = e ∙ r
 sided false x e r s = e ∙ s
 
 module _ (w : Bool) (x : ℕ) where
-  gap : 25 ≤ x → x < 28 → Missing ≡ mapped_at w x
+  gap : 25 ≤ x → x < 28 → None ≡ mapped_at w x
   unfolding table read_at written_at
-  gap h k = in_range (λ (n : ℕ). Missing ≡ mapped_at w n) 3 25 (either w 25 refl refl, (either w 26 refl refl, (either w 27 refl refl, tt))) x h k
+  gap h k = in_range (λ (n : ℕ). None ≡ mapped_at w n) 3 25 (either w 25 refl refl, (either w 26 refl refl, (either w 27 refl refl, tt))) x h k
 
   -- what the arm of ranges knows: none of the keys, in the order of the arms
   abbrev Keyless : Type 0
@@ -44,11 +44,11 @@ module _ (w : Bool) (x : ℕ) where
       let up : 25 ≤ x = omega arith in
       (up, omega arith)
 
-  rest : Keyless → (b : Bool) → ltb x 32 ≡ b → Missing ≡ mapped_at w x
+  rest : Keyless → (b : Bool) → ltb x 32 ≡ b → None ≡ mapped_at w x
   rest r true e = gap (between r (ltb-true x 32 e)).0 (between r (ltb-true x 32 e)).1
   rest r false e = sym (past w x (ltb-false x 32 e))
 
-  rest_at : Keyless → Missing ≡ mapped_at w x
+  rest_at : Keyless → None ≡ mapped_at w x
   rest_at r = rest r (ltb x 32) refl
 
 pub returns-in-0 : goal.returns-in-0

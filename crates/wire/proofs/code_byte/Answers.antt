@@ -8,5 +8,5 @@ returns c =
     let a = c.args in
     let number = number_below a.code in
     let irq = one_below a.irq in
-    let high = joined_bit 8 a.irq c.code_number.ensures (omega arith) in
+    let high = joined_bit 8 a.irq c.from.ensures (omega arith) in
     joined_field 8 4 a.acks high (omega arith)

@@ -1,8 +1,8 @@
+use Rattle.std.specs.Prelude.{None}
 use mathlib.Core.Path.{◌≡◌}
 use Prim.Native.Nat.{zero-le}
 use borrow.Author.Tests.{le-ltb}
 use Rattle.rules.specs.Records.{well_formed, fields_of}
-use Rattle.rules.specs.declared.records.Decoded.TheVariants.{Ill}
 use Rattle.laws.proofs.Tables.{in_rest}
 use Rattle.wire.proofs.fields.Goals as goal
 
@@ -35,4 +35,4 @@ pub returns-in_default : goal.returns-in_default
 unfolding fields_of well_formed
 returns-in_default c =
     let a = c.args in
-    in_rest (λ k. Ill ≡ fields_of k a.offset a.p) a.kind 7 c.in_default.in_default-own.rest (λ m. rw (le-ltb a.p 0 zero-le))
+    in_rest (λ k. None ≡ fields_of k a.offset a.p) a.kind 7 c.in_default.in_default-own.rest (λ m. rw (le-ltb a.p 0 zero-le))
