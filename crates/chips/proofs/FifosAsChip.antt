@@ -60,3 +60,6 @@ module _ (m : List ℕ) (h : IsImage m) where
   pub host_counted : get_or m host_count_place 0 ≡ length (transfer_at m).host
   unfolding state_at
   host_counted = host_counts
+
+-- what an image holds of them: their bytes and their counts
+pub ruleset fifos_held = (scsi_held, host_held, scsi_counted, host_counted)

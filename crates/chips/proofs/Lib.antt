@@ -1,5 +1,3 @@
 pub mod Elements
-pub mod Pasted
 pub mod Stored
-pub mod Window
 pub mod FifosAsChip

@@ -11,9 +11,9 @@ use Rattle.rules.specs.Ranges.{Tidy, RegistersFit, RegistersBytes, Bytes, InByte
 use Rattle.rules.specs.declared.chip.Chip.{Chip}
 use Rattle.rules.proofs.Ranges.{bytes_take}
 use Rattle.laws.proofs.Chips.{tidy_registers, tidy_host, tidy_scsi}
-use Rattle.image.specs.Image.{image_of}
+use Rattle.image.specs.Image.{image_of, sequencer_bytes}
 use Rattle.image.specs.Layout.{host_bytes_place, image_size, offset_place, scsi_bytes_place, scsi_count_place, sequencer_place, stack_bytes_place, status_place}
-use Rattle.chips.specs.HeadRuns.{registers_bytes, flags_bytes, numbers_bytes, sequencer_bytes, counts_bytes, Placed}
+use Rattle.chips.specs.HeadRuns.{registers_bytes, flags_bytes, numbers_bytes, counts_bytes, Placed}
 
 -- the first k bytes are in their places
 pub record Filled (m : List ℕ) (k : ℕ) (p : List ℕ) : Type 0 where
@@ -52,9 +52,9 @@ abbrev pub bytes_of : Chip → List ℕ
 bytes_of c =
     registers_bytes c.registers
     ++ flags_bytes c.status c.latches c.lines
-    ++ numbers_bytes c.transfer.offset c.transfer.ack c.transfer.last c.quiet c.identity c.stack.pointer c.keptbad
+    ++ numbers_bytes c
     ++ sequencer_bytes c.sequencer
-    ++ counts_bytes c.transfer.scsi.count c.transfer.host.count c.transfer.counter
+    ++ counts_bytes c.transfer
     ++ c.transfer.scsi.bytes
     ++ c.stack.bytes
     ++ c.transfer.host.bytes
@@ -74,21 +74,21 @@ module _ (c : Chip) (t : Tidy c) where
   counts_fit_lem = (omega (arith, tidy_scsi c t, t.range.transfer.scsi), omega (arith, tidy_host c t, t.range.transfer.host))
 
   -- the array after each of the eight calls
-  pub all_stored : (m : List ℕ) {m1 m2 m3 m4 m5 m6 m7 m8 : List ℕ} → m1 ≡ sets m 0 (registers_bytes c.registers) → m2 ≡ sets m1 status_place (flags_bytes c.status c.latches c.lines) → m3 ≡ sets m2 offset_place (numbers_bytes c.transfer.offset c.transfer.ack c.transfer.last c.quiet c.identity c.stack.pointer c.keptbad) → m4 ≡ sets m3 sequencer_place (sequencer_bytes c.sequencer) → m5 ≡ sets m4 scsi_count_place (counts_bytes c.transfer.scsi.count c.transfer.host.count c.transfer.counter) → Placed m5 scsi_bytes_place c.transfer.scsi.bytes 8 m6 → Placed m6 stack_bytes_place c.stack.bytes 32 m7 → Placed m7 host_bytes_place c.transfer.host.bytes 128 m8 → m8 ≡ image_of (view c)
+  pub all_stored : (m : List ℕ) {m1 m2 m3 m4 m5 m6 m7 m8 : List ℕ} → m1 ≡ sets m 0 (registers_bytes c.registers) → m2 ≡ sets m1 status_place (flags_bytes c.status c.latches c.lines) → m3 ≡ sets m2 offset_place (numbers_bytes c) → m4 ≡ sets m3 sequencer_place (sequencer_bytes c.sequencer) → m5 ≡ sets m4 scsi_count_place (counts_bytes c.transfer) → Placed m5 scsi_bytes_place c.transfer.scsi.bytes 8 m6 → Placed m6 stack_bytes_place c.stack.bytes 32 m7 → Placed m7 host_bytes_place c.transfer.host.bytes 128 m8 → m8 ≡ image_of (view c)
   all_stored m {m1} {m2} {m3} {m4} {m5} e1 e2 e3 e4 e5 p6 p7 p8 =
       let l1 : length m1 ≡ length m = rw e1 (length-sets m 0 (registers_bytes c.registers)) in
       let l2 : length m2 ≡ length m1 = rw e2 (length-sets m1 status_place (flags_bytes c.status c.latches c.lines)) in
       let l3 : length m3 ≡ length m2 =
-      rw e3 (length-sets m2 offset_place (numbers_bytes c.transfer.offset c.transfer.ack c.transfer.last c.quiet c.identity c.stack.pointer c.keptbad))
+      rw e3 (length-sets m2 offset_place (numbers_bytes c))
       in
       let l4 : length m4 ≡ length m3 = rw e4 (length-sets m3 sequencer_place (sequencer_bytes c.sequencer)) in
-      let l5 : length m5 ≡ length m4 = rw e5 (length-sets m4 scsi_count_place (counts_bytes c.transfer.scsi.count c.transfer.host.count c.transfer.counter)) in
+      let l5 : length m5 ≡ length m4 = rw e5 (length-sets m4 scsi_count_place (counts_bytes c.transfer)) in
       let f0 : Filled m 0 [] = none m (omega (arith, p6.size)) in
       let f1 = stored f0 (registers_bytes c.registers) (omega arith) e1 in
       let f2 = stored f1 (flags_bytes c.status c.latches c.lines) (omega arith) e2 in
-      let f3 = stored f2 (numbers_bytes c.transfer.offset c.transfer.ack c.transfer.last c.quiet c.identity c.stack.pointer c.keptbad) (omega arith) e3 in
+      let f3 = stored f2 (numbers_bytes c) (omega arith) e3 in
       let f4 = stored f3 (sequencer_bytes c.sequencer) (omega arith) e4 in
-      let f5 = stored f4 (counts_bytes c.transfer.scsi.count c.transfer.host.count c.transfer.counter) (omega arith) e5 in
+      let f5 = stored f4 (counts_bytes c.transfer) (omega arith) e5 in
       whole (copied (copied (copied f5 (omega arith) p6) (omega arith) p7) (omega arith) p8) ∙ of_chip
 
   -- every byte that was stored is one

@@ -1,5 +1,5 @@
--- The head of an image in five runs of bytes, and a copy into the places after it.
-use Rattle.std.specs.Prelude.{ℕ, ◌≡◌, Bool, List, [], ◌∷◌, length, take, drop, get_or}
+-- The head of an image in five runs of bytes, that of the sequencer image's, and a copy into the places after it.
+use Rattle.std.specs.Prelude.{ℕ, ◌≡◌, List, [], ◌∷◌, length, take, drop, get_or}
 use Rattle.std.proofs.Math.Seq.{paste}
 use Rattle.rules.specs.Numbers.{one}
 use Rattle.rules.specs.Counter.{counter_byte}
@@ -11,9 +11,9 @@ use Rattle.rules.specs.declared.records.Lines.{Lines}
 use Rattle.rules.specs.declared.chip.Status.{Status}
 use Rattle.rules.specs.declared.chip.Latches.{Latches}
 use Rattle.rules.specs.declared.chip.Stack.{Stack}
-use Rattle.rules.specs.declared.chip.Sequencer.{Sequencer}
+use Rattle.rules.specs.declared.chip.DataPath.{DataPath}
 use Rattle.rules.specs.declared.chip.Chip.{Chip}
-use Rattle.image.specs.Image.{image_of, IsImage, scsisig_byte, scsirate_byte, scsiid_byte, status_byte, latches_byte, sequencer_byte, selection_byte, upper_byte, control_byte}
+use Rattle.image.specs.Image.{image_of, IsImage, scsisig_byte, scsirate_byte, scsiid_byte, status_byte, latches_byte, upper_byte, control_byte}
 use Rattle.image.specs.Layout.{image_size, pointer_place, stack_bytes_place}
 
 -- from 0 on
@@ -38,25 +38,26 @@ abbrev pub flags_bytes : Status → Latches → Lines → List ℕ
 flags_bytes t k l = status_byte t ∷ latches_byte k ∷ l.byte ∷ upper_byte l ∷ control_byte l ∷ []
 
 -- from the offset on
-abbrev pub numbers_bytes : ℕ → Bool → ℕ → ℕ → ℕ → ℕ → Bool → List ℕ
-numbers_bytes offset ack last quiet identity pointer kept =
-    offset ∷ one ack ∷ last ∷ quiet ∷ identity ∷ pointer ∷ one kept ∷ []
-
--- from the sequencer on
-abbrev pub sequencer_bytes : Sequencer → List ℕ
-sequencer_bytes q =
-    sequencer_byte q
-    ∷ selection_byte q.latches
-    ∷ counter_byte 2 q.ticks
-    ∷ counter_byte 1 q.ticks
-    ∷ counter_byte 0 q.ticks
-    ∷ q.selid
+abbrev pub numbers_bytes : Chip → List ℕ
+numbers_bytes c =
+    c.transfer.offset
+    ∷ one c.transfer.ack
+    ∷ c.transfer.last
+    ∷ c.quiet
+    ∷ c.identity
+    ∷ c.stack.pointer
+    ∷ one c.keptbad
     ∷ []
 
 -- from the counts on
-abbrev pub counts_bytes : ℕ → ℕ → ℕ → List ℕ
-counts_bytes scsi host counter =
-    scsi ∷ host ∷ counter_byte 2 counter ∷ counter_byte 1 counter ∷ counter_byte 0 counter ∷ []
+abbrev pub counts_bytes : DataPath → List ℕ
+counts_bytes path =
+    path.scsi.count
+    ∷ path.host.count
+    ∷ counter_byte 2 path.counter
+    ∷ counter_byte 1 path.counter
+    ∷ counter_byte 0 path.counter
+    ∷ []
 
 -- n bytes stand from a place on in an array of image_size, the others are as they were
 pub record Placed (before : List ℕ) (at : ℕ) (s : List ℕ) (n : ℕ) (after : List ℕ) : Type 0 where

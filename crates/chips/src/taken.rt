@@ -1,9 +1,9 @@
 // The parts of a chip value, each from its places.
-ghost use Rattle.std.specs.Prelude.{◌≡◌, ◌+◌, ◌*◌, length, take, drop};
+ghost use Rattle.std.specs.Prelude.{◌≡◌, ◌+◌, ◌≤◌, take, drop};
 ghost use Rattle.rules.specs.Chips.{path_of};
 ghost use Rattle.image.specs.Image.{registers_at, lines_at, transfer_at, IsImage};
 ghost use Rattle.chips.specs.HeadRuns.{stack_at};
-ghost use Rattle.image.specs.Layout.{host_bytes_place, image_size, scsi_bytes_place, stack_bytes_place};
+ghost use Rattle.image.specs.Layout.{image_size};
 
 use image::bytes::number_of;
 use image::layout::{
@@ -12,13 +12,10 @@ use image::layout::{
     SCSI_COUNT, SCSIDAT, SCSIID, SCSIRATE, SCSISEQ, SCSISIG, SIMODE0, SIMODE1, STACK_BYTES,
     SXFRCTL0, SXFRCTL1,
 };
-use registers::bytes::{
-    dmacntrl0_of, dmacntrl1_of, scsiid_of, scsirate_of, scsiseq_of, scsisig_of, simode0_of,
-    simode1_of, sxfrctl0_of, sxfrctl1_of,
-};
+use registers::bytes::{Stored, dmacntrl1_of, scsiid_of, scsirate_of, scsisig_of};
 use rules::chip::{DataPath, HostFifo, ScsiFifo, Stack};
 use rules::records::Lines;
-use rules::registers::Registers;
+use rules::registers::{Dmacntrl0, Registers, Scsiseq, Simode0, Simode1, Sxfrctl0, Sxfrctl1};
 
 // The lines that others drive.
 pub fn lines_at(m: &Image) -> Lines
@@ -44,57 +41,28 @@ pub fn registers_at(m: &Image) -> Registers
     ensures { result ≡ registers_at m.now }
 {
     Registers {
-        scsiseq: scsiseq_of(m[SCSISEQ]),
-        sxfrctl0: sxfrctl0_of(m[SXFRCTL0]),
-        sxfrctl1: sxfrctl1_of(m[SXFRCTL1]),
+        scsiseq: Scsiseq::from_byte(m[SCSISEQ]),
+        sxfrctl0: Sxfrctl0::from_byte(m[SXFRCTL0]),
+        sxfrctl1: Sxfrctl1::from_byte(m[SXFRCTL1]),
         scsisig: scsisig_of(false, m[SCSISIG]),
         scsirate: scsirate_of(m[SCSIRATE]),
         scsiid: scsiid_of(m[SCSIID]),
         scsidat: m[SCSIDAT],
-        simode0: simode0_of(m[SIMODE0]),
-        simode1: simode1_of(m[SIMODE1]),
-        dmacntrl0: dmacntrl0_of(m[DMACNTRL0]),
+        simode0: Simode0::from_byte(m[SIMODE0]),
+        simode1: Simode1::from_byte(m[SIMODE1]),
+        dmacntrl0: Dmacntrl0::from_byte(m[DMACNTRL0]),
         dmacntrl1: dmacntrl1_of(m[DMACNTRL1]),
         brstcntrl: m[BRSTCNTRL],
     }
 }
 
-fn count_of(b: u8) -> usize
-    ensures { result ≡ b }
+// N bytes from a place on.
+fn bytes_at<const N: usize>(m: &Image, at: usize) -> [u8; N]
+    requires { at + N ≤ image_size }
+    ensures { result ≡ take N (drop at m.now) }
 {
-    b as usize
-}
-
-fn scsi_bytes(m: &[u8]) -> [u8; 8]
-    requires { length m.now ≡ image_size }
-    ensures { result ≡ take 8 (drop scsi_bytes_place m.now) }
-{
-    let mut out = [0u8; 8];
-    for i in 0..8usize {
-        out[i] = m[SCSI_BYTES + i];
-    }
-    out
-}
-
-fn stack_bytes(m: &[u8]) -> [u8; 32]
-    requires { length m.now ≡ image_size }
-    ensures { result ≡ take 32 (drop stack_bytes_place m.now) }
-{
-    let mut out = [0u8; 32];
-    for i in 0..32usize {
-        out[i] = m[STACK_BYTES + i];
-    }
-    out
-}
-
-fn host_bytes(m: &[u8]) -> [u8; 128]
-    requires { length m.now ≡ image_size }
-    ensures { result ≡ take 128 (drop host_bytes_place m.now) }
-{
-    let mut out = [0u8; 128];
-    for i in 0..128usize {
-        out[i] = m[HOST_BYTES + i];
-    }
+    let mut out = [0u8; N];
+    out.copy_from_slice(&m[at..at + N]);
     out
 }
 
@@ -102,31 +70,27 @@ fn host_bytes(m: &[u8]) -> [u8; 128]
 pub fn stack_at(m: &Image) -> Stack
     ensures { result ≡ stack_at m.now }
 {
-    let bytes = stack_bytes(m);
     Stack {
-        bytes: bytes,
+        bytes: bytes_at(m, STACK_BYTES),
         pointer: m[POINTER],
     }
 }
 
 // The data path, its FIFOs in their one form.
+#[tactic(auto, unfolding(rules::specs::Chips::path_of), using(crate::proofs::FifosAsChip::fifos_held))]
 pub fn path_at(m: &Image) -> DataPath
     requires { IsImage m.now }
     ensures { result ≡ path_of (transfer_at m.now) }
 {
-    let host_places = host_bytes(m);
-    let scsi_places = scsi_bytes(m);
-    let host = HostFifo {
-        bytes: host_places,
-        count: count_of(m[HOST_COUNT]),
-    };
-    let scsi = ScsiFifo {
-        bytes: scsi_places,
-        count: count_of(m[SCSI_COUNT]),
-    };
     DataPath {
-        host: host,
-        scsi: scsi,
+        host: HostFifo {
+            bytes: bytes_at(m, HOST_BYTES),
+            count: usize::from(m[HOST_COUNT]),
+        },
+        scsi: ScsiFifo {
+            bytes: bytes_at(m, SCSI_BYTES),
+            count: usize::from(m[SCSI_COUNT]),
+        },
         counter: number_of(m[COUNTER_LOW], m[COUNTER_MIDDLE], m[COUNTER_HIGH]),
         offset: m[OFFSET],
         ack: m[ACK] == 1,

@@ -1,15 +1,17 @@
 -- Stores in the head of an image: the counter's bytes, the ACK and the offset; and the SCSI FIFO's count.
-use Prim.Native.Nat.{ℕ, ◌+◌, ◌-◌, ◌*◌, ◌<◌, ◌≤◌}
+use Prim.Native.Nat.{ℕ, zero, suc, ◌+◌, ◌-◌, ◌*◌, ◌<◌, ◌≤◌}
 use mathlib.Core.Path.{◌≡◌, refl, ap, sym, ◌∙◌}
-use mathlib.Core.Bool.{true, false}
+use mathlib.Core.Bool.{Bool, true, false}
 use mathlib.Core.List.{List, []}
-use borrow.Author.Tests.{ne_eqb, lt-ltb, le-ltb, lt-leb}
+use lib.Dec.{ltb, eqb}
+use borrow.Author.Tests.{lt-ltb, le-ltb, lt-leb}
 use native.Mathlib.Omega.{arith}
 use lib.ListN.{length, drop, set, get_or, drop_of_length-le}
-use Rattle.rules.specs.Counter.{counter_size, stepped_to, counter_step, counter_byte, counter_with}
+use Rattle.rules.specs.Counter.{counter_size, stepped_to, counter_step, value_after, passings, counter_byte, counter_with}
 use Rattle.rules.specs.declared.counts.CounterStep.{CounterStep}
 use Rattle.rules.specs.declared.counts.Direction.{Direction}
 use Rattle.rules.specs.declared.counts.Direction.TheVariants.{Up, Down}
+use Rattle.rules.specs.Numbers.{one}
 use Rattle.rules.specs.State.{State}
 use Rattle.counter.specs.Steps.{counter_steps}
 use Rattle.counter.proofs.Steps.{up_steps, down_steps}
@@ -17,7 +19,7 @@ use Rattle.image.proofs.ReadBack.{counter_back}
 use Rattle.image.specs.Image.{image_of}
 use Rattle.rules.specs.Changed.{with_counter, with_offset, with_ack}
 use Rattle.image.specs.Layout.{ack_place, counter_high_place, counter_low_place, counter_middle_place, offset_place, scsi_count_place}
-use Rattle.datapath.specs.Fits.{FitsPlaces, counter_written, counter_stepped, counter_passes, counter_stepped_by, counter_passes_in}
+use Rattle.datapath.specs.Fits.{FitsPlaces, counter_written, counter_stepped_by, counter_passes_in}
 
 -- the three bytes of a number stand for it
 stored : (s : State) (n : ℕ) → set (set (set (image_of s) counter_low_place (counter_byte 0 n)) counter_middle_place (counter_byte 1 n)) counter_high_place (counter_byte 2 n) ≡ image_of (with_counter n s)
@@ -87,26 +89,25 @@ low_read : (s : State) → get_or (image_of s) counter_low_place 0 ≡ counter_b
 unfolding image_of
 low_read s = refl
 
--- steps that change the low byte alone, to b, and a step that does not come to 0
+-- steps that change the low byte alone, to b
 low_steps : (s : State) (v b : ℕ) → b < 256 → v + counter_byte 0 s.transfer.counter ≡ s.transfer.counter + b
     → set (image_of s) counter_low_place b ≡ image_of (with_counter v s)
 unfolding image_of
 low_steps s v b h k = bytes_as s v (omega (arith, k)) (omega (arith, k)) (omega (arith, k))
 
-low_passes : (d : Direction) (n b : ℕ) → 0 < b → (counter_step d n).value + counter_byte 0 n ≡ n + b → (counter_step d n).passed ≡ false
-unfolding counter_step
-low_passes d n b h k = ne_eqb (stepped_to d n) 0 (λ e. omega (arith, e, k))
+-- one step
+said : ℕ → Bool → CounterStep
+said v t = record { value = v; passed = t }
 
--- a low byte that does not carry, up and down
-one_up : (n : ℕ) → n < counter_size → counter_byte 0 n < 255 → (counter_step Up n).value + counter_byte 0 n ≡ n + (counter_byte 0 n + 1)
-unfolding counter_step stepped_to
-one_up n h k = omega arith
+pub one_step : (d : Direction) (n : ℕ) → counter_steps d 1 n ≡ counter_step d n
+unfolding counter_steps value_after passings counter_step said
+one_step d n = ap (said (stepped_to d n)) (by_test (eqb (stepped_to d n) 0))
+  where
+    by_test : (t : Bool) → ltb 0 (one t + 0) ≡ t
+    by_test true = refl
+    by_test false = refl
 
-one_down : (n : ℕ) → n < counter_size → 1 < counter_byte 0 n → (counter_step Down n).value + counter_byte 0 n ≡ n + (counter_byte 0 n - 1)
-unfolding counter_step stepped_to
-one_down n h k = omega arith
-
--- and so for k steps, which then pass no end
+-- k steps up or down of a low byte that does not carry pass no end
 more_up : (k n : ℕ) → n < counter_size → counter_byte 0 n + k < 256
     → ((counter_steps Up k n).passed ≡ false) × ((counter_steps Up k n).value + counter_byte 0 n ≡ n + (counter_byte 0 n + k))
 more_up k n h l =
@@ -137,17 +138,11 @@ scsi_count s = refl
 
 -- an array of which it is known which state it is the image of
 module _ {m : List ℕ} (s : State) (e : m ≡ image_of s) where
-  pub zeroed : set (set (set m counter_low_place 0) counter_middle_place 0) counter_high_place 0 ≡ image_of (with_counter 0 s)
-  zeroed = ap (λ (y : List ℕ). set (set (set y counter_low_place 0) counter_middle_place 0) counter_high_place 0) e ∙ stored s 0
-
-  pub low : (v : ℕ) → v < 256 → set m counter_low_place v ≡ image_of (counter_written 0 v s)
-  low v h = ap (λ (y : List ℕ). set y counter_low_place v) e ∙ low_stored s v h
-
-  pub middle : (v : ℕ) → v < 256 → set m counter_middle_place v ≡ image_of (counter_written 1 v s)
-  middle v h = ap (λ (y : List ℕ). set y counter_middle_place v) e ∙ middle_stored s v h
-
-  pub high : (v : ℕ) → v < 256 → set m counter_high_place v ≡ image_of (counter_written 2 v s)
-  high v h = ap (λ (y : List ℕ). set y counter_high_place v) e ∙ high_stored s v h
+  pub byte_laid : (k v : ℕ) → k < 3 → v < 256 → set m (counter_low_place - k) v ≡ image_of (counter_written k v s)
+  byte_laid zero v l h = ap (λ (y : List ℕ). set y counter_low_place v) e ∙ low_stored s v h
+  byte_laid (suc zero) v l h = ap (λ (y : List ℕ). set y counter_middle_place v) e ∙ middle_stored s v h
+  byte_laid (suc (suc zero)) v l h = ap (λ (y : List ℕ). set y counter_high_place v) e ∙ high_stored s v h
+  byte_laid (suc (suc (suc k))) v l h = absurd (omega arith)
 
   pub number_laid : (n : ℕ) {a b c : ℕ} → a ≡ counter_byte 0 n → b ≡ counter_byte 1 n → c ≡ counter_byte 2 n
       → set (set (set m counter_low_place a) counter_middle_place b) counter_high_place c ≡ image_of (with_counter n s)
@@ -172,24 +167,6 @@ module _ {m : List ℕ} (s : State) (e : m ≡ image_of s) where
         → set m counter_low_place a ≡ image_of (with_counter v s)
     low_to v b f h k =
         ap (λ (x : ℕ). set m counter_low_place x) f ∙ ap (λ (y : List ℕ). set y counter_low_place b) e ∙ low_steps s v b h k
-
-    pub low_up : get_or m counter_low_place 0 < 255
-        → (false ≡ counter_passes Up s) × (set m counter_low_place (get_or m counter_low_place 0 + 1) ≡ image_of (counter_stepped Up s))
-    low_up h =
-        let n : ℕ = s.transfer.counter in
-        let b : ℕ = counter_byte 0 n + 1 in
-        let k = one_up n p.counter (omega (arith, low_byte)) in
-        let v = (counter_step Up n).value in
-        (sym (low_passes Up n b (omega arith) k), low_to v b (omega (arith, low_byte)) (omega (arith, low_byte)) k)
-
-    pub low_down : 1 < get_or m counter_low_place 0
-        → (false ≡ counter_passes Down s) × (set m counter_low_place (get_or m counter_low_place 0 - 1) ≡ image_of (counter_stepped Down s))
-    low_down h =
-        let n : ℕ = s.transfer.counter in
-        let b : ℕ = counter_byte 0 n - 1 in
-        let k = one_down n p.counter (omega (arith, low_byte)) in
-        let v = (counter_step Down n).value in
-        (sym (low_passes Down n b (omega (arith, low_byte)) k), low_to v b (omega (arith, low_byte)) (omega arith) k)
 
     pub low_up_by : (k : ℕ) → get_or m counter_low_place 0 + k < 256
         → (false ≡ counter_passes_in Up k s) × (set m counter_low_place (get_or m counter_low_place 0 + k) ≡ image_of (counter_stepped_by Up k s))

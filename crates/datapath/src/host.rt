@@ -1,29 +1,19 @@
 // The host FIFO of an image: its count, and its bytes, oldest first, 0 past the count.
-ghost use Rattle.std.specs.Prelude.{◌≡◌, [], ◌∷◌, ◌++◌, ◌+◌, ◌%◌, ◌/◌, ◌<◌, ◌≤◌, get_or, set, drop};
+ghost use Rattle.std.specs.Prelude.{◌≡◌, [], ◌∷◌, ◌++◌, ◌%◌, ◌/◌, ◌<◌, ◌≤◌, get_or, drop};
 ghost use Rattle.image.specs.Image.{image_of, state_at, IsImage};
 ghost use Rattle.rules.specs.Changed.{with_host};
-ghost use Rattle.image.specs.Layout.{host_bytes_place, host_count_place};
+ghost use Rattle.image.specs.Layout.{host_count_place};
 
-use crate::copies::{moved_down, wide};
+use crate::copies::{byte_put, taken_off};
 use image::layout::{HOST_BYTES, HOST_COUNT, Image};
 
 // One byte more.
-fn push(m: &mut Image, b: u8)
-    requires { get_or m.old host_count_place 0 < 128 }
-    ensures { m.new ≡ set (set m.old (host_bytes_place + get_or m.old host_count_place 0) b) host_count_place (get_or m.old host_count_place 0 + 1) }
-{
-    let n = m[HOST_COUNT];
-    let at = n as usize;
-    m[HOST_BYTES + at] = b;
-    m[HOST_COUNT] = n + 1;
-}
-
 pub fn host_pushed(m: &mut Image, b: u8)
     requires image { IsImage m.old }
     requires host_count_place_bound { get_or m.old host_count_place 0 < 128 }
     ensures { m.new ≡ image_of (with_host ((state_at m.old).transfer.host ++ (b ∷ [])) (state_at m.old)) }
 {
-    push(m, b);
+    byte_put::<HOST_COUNT, HOST_BYTES>(m, b);
 }
 
 // "A word's low byte comes first."
@@ -32,19 +22,18 @@ pub fn word_pushed(m: &mut Image, word: u16)
     requires host_count_place_bound { get_or m.old host_count_place 0 < 127 }
     ensures { m.new ≡ image_of (with_host ((state_at m.old).transfer.host ++ (word % 256 ∷ word / 256 ∷ [])) (state_at m.old)) }
 {
-    push(m, (word % 256) as u8);
-    push(m, (word / 256) as u8);
+    let [low, high] = word.to_le_bytes();
+    byte_put::<HOST_COUNT, HOST_BYTES>(m, low);
+    byte_put::<HOST_COUNT, HOST_BYTES>(m, high);
 }
 
-// The k oldest taken off.
+// The k oldest taken off: the front of `taken_off` for this FIFO, since each contract names its own part of the state.
 pub fn host_popped(m: &mut Image, k: usize)
     requires image { IsImage m.old }
     requires k_bound { k ≤ get_or m.old host_count_place 0 }
     ensures { m.new ≡ image_of (with_host (drop k (state_at m.old).transfer.host) (state_at m.old)) }
 {
-    let n = wide(m[HOST_COUNT]);
-    moved_down(m, HOST_BYTES, n, k);
-    m[HOST_COUNT] = (n - k) as u8;
+    taken_off::<HOST_COUNT, HOST_BYTES>(m, k);
 }
 
 // "RSTFIFO empties the host FIFO."
@@ -52,6 +41,6 @@ pub fn host_emptied(m: &mut Image)
     requires { IsImage m.old }
     ensures { m.new ≡ image_of (with_host [] (state_at m.old)) }
 {
-    let n = wide(m[HOST_COUNT]);
-    host_popped(m, n);
+    let held = usize::from(m[HOST_COUNT]);
+    host_popped(m, held);
 }

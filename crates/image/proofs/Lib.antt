@@ -1,4 +1,3 @@
-pub mod EightBits
 pub mod Pastes
 pub mod Phases
 pub mod ReadBack

@@ -8,18 +8,12 @@ use lib.ListN.{length, take, drop}
 use lib.Seq.{take_at, drop_at, drop-drop, take-append_seam}
 use Rattle.rules.specs.Numbers.{bit, one, byte_of, padded}
 use Rattle.rules.specs.Counter.{counter_byte, counter_size}
-use Rattle.rules.specs.Registers.{scsiseq_of, scsiseq_byte, sxfrctl0_of, sxfrctl0_byte, sxfrctl1_of, sxfrctl1_byte, scsisig_of, scsirate_of, scsiid_of, simode0_of, simode0_byte, simode1_of, simode1_byte, dmacntrl0_of, dmacntrl0_byte, dmacntrl1_of, dmacntrl1_byte}
+use Rattle.rules.specs.Registers.{scsisig_of, scsirate_of, scsiid_of, dmacntrl1_of, dmacntrl1_byte}
 use Rattle.rules.specs.State.{State}
 use Rattle.rules.specs.Ranges.{InRange, InBytes, RegistersFit}
-use Rattle.rules.specs.declared.registers.Scsiseq.{Scsiseq}
-use Rattle.rules.specs.declared.registers.Sxfrctl0.{Sxfrctl0}
-use Rattle.rules.specs.declared.registers.Sxfrctl1.{Sxfrctl1}
 use Rattle.rules.specs.declared.registers.Scsisig.{Scsisig}
 use Rattle.rules.specs.declared.registers.Scsirate.{Scsirate}
 use Rattle.rules.specs.declared.registers.Scsiid.{Scsiid}
-use Rattle.rules.specs.declared.registers.Simode0.{Simode0}
-use Rattle.rules.specs.declared.registers.Simode1.{Simode1}
-use Rattle.rules.specs.declared.registers.Dmacntrl0.{Dmacntrl0}
 use Rattle.rules.specs.declared.registers.Dmacntrl1.{Dmacntrl1}
 use Rattle.rules.specs.declared.chip.Status.{Status}
 use Rattle.rules.specs.declared.chip.Latches.{Latches}
@@ -31,76 +25,13 @@ use Rattle.rules.specs.declared.chip.Sequencer.{Sequencer}
 use Rattle.laws.proofs.Bits.{one_below}
 use Rattle.laws.proofs.Lists.{padded_length, padded_take}
 use Rattle.image.specs.Image.{scsisig_byte, scsirate_byte, scsiid_byte, status_byte, status_of, latches_byte, latches_of, phase_of, sequencer_byte, statuses_of, image_of, registers_at, lines_at, transfer_at, sequencer_at, state_at, IsImage}
-use Rattle.image.proofs.EightBits.{is_one, bit_0, bit_1, bit_2, bit_3, bit_4, bit_5, bit_6, bit_7}
+use Rattle.laws.proofs.EightBits.{is_one, bits}
+use Rattle.registers.specs.Kept.{scsiseq_back, sxfrctl0_back, sxfrctl1_back, simode0_back, simode1_back, dmacntrl0_back}
 use Rattle.image.specs.Layout.{host_bytes_place, scsi_bytes_place, stack_bytes_place}
-
--- the eight bits that a number has
-record Bits (v : ℕ) (b7 b6 b5 b4 b3 b2 b1 b0 : Bool) : Type 0 where
-  seven : bit v 7 ≡ b7
-  six : bit v 6 ≡ b6
-  five : bit v 5 ≡ b5
-  four : bit v 4 ≡ b4
-  three : bit v 3 ≡ b3
-  two : bit v 2 ≡ b2
-  one : bit v 1 ≡ b1
-  zero : bit v 0 ≡ b0
-
-bits : (b7 b6 b5 b4 b3 b2 b1 b0 : Bool) → Bits (byte_of b7 b6 b5 b4 b3 b2 b1 b0) b7 b6 b5 b4 b3 b2 b1 b0
-bits b7 b6 b5 b4 b3 b2 b1 b0 =
-    record {
-      seven = bit_7 b7 b6 b5 b4 b3 b2 b1 b0;
-      six = bit_6 b7 b6 b5 b4 b3 b2 b1 b0;
-      five = bit_5 b7 b6 b5 b4 b3 b2 b1 b0;
-      four = bit_4 b7 b6 b5 b4 b3 b2 b1 b0;
-      three = bit_3 b7 b6 b5 b4 b3 b2 b1 b0;
-      two = bit_2 b7 b6 b5 b4 b3 b2 b1 b0;
-      one = bit_1 b7 b6 b5 b4 b3 b2 b1 b0;
-      zero = bit_0 b7 b6 b5 b4 b3 b2 b1 b0;
-    }
 
 or_false : (b : Bool) → b || false ≡ b
 or_false true = refl
 or_false false = refl
-
-pub scsiseq_back : (r : Scsiseq) → scsiseq_of (scsiseq_byte r) ≡ r
-scsiseq_back r =
-    let b = bits r.temodeo r.enselo r.enseli r.enrseli r.enautoatno r.enautoatni r.enautoatnp r.scsirsto in
-    λ i.
-    record {
-      temodeo = b.seven i;
-      enselo = b.six i;
-      enseli = b.five i;
-      enrseli = b.four i;
-      enautoatno = b.three i;
-      enautoatni = b.two i;
-      enautoatnp = b.one i;
-      scsirsto = b.zero i;
-    }
-
-pub sxfrctl0_back : (r : Sxfrctl0) → sxfrctl0_of (sxfrctl0_byte r) ≡ r
-sxfrctl0_back r =
-    let b = bits r.scsien r.dmaen r.chen false r.spioen false false false in
-    λ i.
-    record {
-      scsien = b.seven i;
-      dmaen = b.six i;
-      chen = b.five i;
-      spioen = b.three i;
-    }
-
-pub sxfrctl1_back : (r : Sxfrctl1) → sxfrctl1_of (sxfrctl1_byte r) ≡ r
-sxfrctl1_back r =
-    let b = bits r.bitbucket r.swrapen r.enspchk r.stimesel1 r.stimesel0 r.enstimer r.bytealign false in
-    λ i.
-    record {
-      bitbucket = b.seven i;
-      swrapen = b.six i;
-      enspchk = b.five i;
-      stimesel1 = b.four i;
-      stimesel0 = b.three i;
-      enstimer = b.two i;
-      bytealign = b.one i;
-    }
 
 pub scsisig_back : (r : Scsisig) → scsisig_of false (scsisig_byte r) ≡ r
 scsisig_back r =
@@ -115,49 +46,6 @@ scsisig_back r =
       bsyo = b.two i;
       reqo = b.one i;
       acko = b.zero i;
-    }
-
-pub simode0_back : (r : Simode0) → simode0_of (simode0_byte r) ≡ r
-simode0_back r =
-    let b = bits false r.enseldo r.enseldi r.enselingo r.enswrap r.ensdone r.enspiordy r.endmadone in
-    λ i.
-    record {
-      enseldo = b.six i;
-      enseldi = b.five i;
-      enselingo = b.four i;
-      enswrap = b.three i;
-      ensdone = b.two i;
-      enspiordy = b.one i;
-      endmadone = b.zero i;
-    }
-
-pub simode1_back : (r : Simode1) → simode1_of (simode1_byte r) ≡ r
-simode1_back r =
-    let b = bits r.enseltimo r.enatntarg r.enscsirst r.enphasemis r.enbusfree r.enscsiperr r.enphasechg r.enreqinit in
-    λ i.
-    record {
-      enseltimo = b.seven i;
-      enatntarg = b.six i;
-      enscsirst = b.five i;
-      enphasemis = b.four i;
-      enbusfree = b.three i;
-      enscsiperr = b.two i;
-      enphasechg = b.one i;
-      enreqinit = b.zero i;
-    }
-
-pub dmacntrl0_back : (r : Dmacntrl0) → dmacntrl0_of (dmacntrl0_byte r) ≡ r
-dmacntrl0_back r =
-    let b = bits r.endma r.eightbit r.dma r.dwordpio r.write r.inten false r.swint in
-    λ i.
-    record {
-      endma = b.seven i;
-      eightbit = b.six i;
-      dma = b.five i;
-      dwordpio = b.four i;
-      write = b.three i;
-      inten = b.two i;
-      swint = b.zero i;
     }
 
 -- two flags above a pointer of 0

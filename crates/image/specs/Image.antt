@@ -79,6 +79,17 @@ selection_byte k = byte_of false false false false k.seldo k.seldi k.selingo k.s
 abbrev pub selection_of : ℕ → Selection
 selection_of v = record { seldo = bit v 3; seldi = bit v 2; selingo = bit v 1; selto = bit v 0 }
 
+-- the sequencer, its latches, its ticks with the highest byte first, and what 345h reads
+abbrev pub sequencer_bytes : Sequencer → List ℕ
+sequencer_bytes q =
+    sequencer_byte q
+    ∷ selection_byte q.latches
+    ∷ counter_byte 2 q.ticks
+    ∷ counter_byte 1 q.ticks
+    ∷ counter_byte 0 q.ticks
+    ∷ q.selid
+    ∷ []
+
 -- parity and RST, then the lines in the order of 343h
 abbrev pub upper_byte : Lines → ℕ
 upper_byte l = byte_of false false false false false false l.parity l.rst

@@ -1,10 +1,12 @@
-// The bits of an image, each by its name in the data book.
+// The bits of an image, each by its name in the data book: one function a bit, since the contract of each names another field.
+#![tactic(auto, unfolding(crate::specs::Image::state_at))]
+
 ghost use Rattle.std.specs.Prelude.{◌≡◌};
 ghost use Rattle.image.specs.Image.{state_at};
 
 use crate::layout::{
-    ACK, DMACNTRL0, DMACNTRL1, Image, KEPT_PARITY, LINES_UPPER, SCSISEQ, SCSISIG, SIMODE1, STATUS,
-    SXFRCTL0, SXFRCTL1,
+    ACK, DMACNTRL0, DMACNTRL1, Image, KEPT_PARITY, LINES_CONTROL, LINES_UPPER, SCSISEQ, SCSISIG,
+    SIMODE1, STATUS, SXFRCTL0, SXFRCTL1,
 };
 
 // The control bits, as written.
@@ -24,6 +26,18 @@ pub fn scsien(m: &Image) -> bool
     ensures { result ≡ (state_at m.now).registers.sxfrctl0.scsien }
 {
     (m[SXFRCTL0] >> 7) % 2 == 1
+}
+
+pub fn dmaen(m: &Image) -> bool
+    ensures { result ≡ (state_at m.now).registers.sxfrctl0.dmaen }
+{
+    (m[SXFRCTL0] >> 6) % 2 == 1
+}
+
+pub fn spioen(m: &Image) -> bool
+    ensures { result ≡ (state_at m.now).registers.sxfrctl0.spioen }
+{
+    (m[SXFRCTL0] >> 3) % 2 == 1
 }
 
 pub fn enspchk(m: &Image) -> bool
@@ -133,6 +147,19 @@ pub fn fwerr(m: &Image) -> bool
     ensures { result ≡ (state_at m.now).status.fwerr }
 {
     (m[STATUS] >> 0) % 2 == 1
+}
+
+// BSY and SEL, where others drive them.
+pub fn bsy_of_others(m: &Image) -> bool
+    ensures { result ≡ (state_at m.now).lines.bsy }
+{
+    (m[LINES_CONTROL] >> 2) % 2 == 1
+}
+
+pub fn sel_of_others(m: &Image) -> bool
+    ensures { result ≡ (state_at m.now).lines.sel }
+{
+    (m[LINES_CONTROL] >> 3) % 2 == 1
 }
 
 // The parity that others drive.

@@ -1,33 +1,37 @@
 // The lines that are seen and driven, and the words that document 01 makes of them, read off an image.
-ghost use Rattle.std.specs.Prelude.{◌≡◌};
+#![tactic(auto, unfolding(crate::specs::Image::state_at, rules::specs::Seen::rst_seen, rules::specs::Seen::sel_seen, rules::specs::Seen::bsy_seen, rules::specs::Seen::manual, rules::specs::Seen::automatic, rules::specs::Seen::normal, rules::specs::Seen::connected, rules::specs::Seen::path, rules::specs::Seen::synchronous, rules::specs::Seen::limit, rules::specs::Seen::ack_driven, rules::specs::Seen::ack_seen, rules::specs::Seen::byte_driving, rules::specs::Seen::byte_driven, rules::specs::Seen::driving, rules::specs::Seen::data_driven, rules::specs::Seen::data_seen))]
+
+ghost use Rattle.std.specs.Prelude.{◌≡◌, ◌+◌, min};
 ghost use Rattle.rules.specs.Seen.{rst_seen, sel_seen, bsy_seen, cd_seen, io_seen, msg_seen, req_seen, manual, automatic, normal, connected, matched, mismatched, path, synchronous, limit, ack_driven, ack_seen, byte_driving, byte_driven, driving, data_driven, data_seen};
 ghost use Rattle.image.specs.Image.{registers_at, state_at};
 
+use crate::bits::{
+    automatic_ack, bsy_of_others, bsyo, dmaen, scsirsto, sel_of_others, selo, spioen, write,
+};
 use crate::layout::{
-    ACK, DMACNTRL0, Image, LAST, LINES_CONTROL, LINES_DATA, LINES_UPPER, SCSIDAT, SCSIID, SCSIRATE,
-    SCSISEQ, SCSISIG, SXFRCTL0,
+    Image, LAST, LINES_CONTROL, LINES_DATA, LINES_UPPER, SCSIDAT, SCSIID, SCSIRATE, SCSISIG,
 };
 use crate::sequencer::{drives_bsy, drives_data, drives_sel, is_arbitrating, phase, phase_data};
 
 pub fn rst_seen(m: &Image) -> bool
     ensures { result ≡ rst_seen (state_at m.now) }
 {
-    ((m[LINES_UPPER] >> 0) % 2 == 1) | ((m[SCSISEQ] >> 0) % 2 == 1)
+    ((m[LINES_UPPER] >> 0) % 2 == 1) | scsirsto(m)
 }
 
 pub fn bsy_seen(m: &Image) -> bool
     ensures { result ≡ bsy_seen (state_at m.now) }
 {
-    ((m[LINES_CONTROL] >> 2) % 2 == 1) | ((m[SCSISIG] >> 2) % 2 == 1) | drives_bsy(phase(m))
+    bsy_of_others(m) | bsyo(m) | drives_bsy(phase(m))
 }
 
 pub fn sel_seen(m: &Image) -> bool
     ensures { result ≡ sel_seen (state_at m.now) }
 {
-    ((m[LINES_CONTROL] >> 3) % 2 == 1) | ((m[SCSISIG] >> 3) % 2 == 1) | drives_sel(phase(m))
+    sel_of_others(m) | selo(m) | drives_sel(phase(m))
 }
 
-// "never CD, IO, MSG, REQ": the chip drives none of them.
+// "never CD, IO, MSG, REQ": the chip drives none of them. One bit each, and each contract names another line.
 pub fn cd_seen(m: &Image) -> bool
     ensures { result ≡ cd_seen (state_at m.now) }
 {
@@ -56,19 +60,19 @@ pub fn req_seen(m: &Image) -> bool
 pub fn manual(m: &Image) -> bool
     ensures { result ≡ manual (registers_at m.now) }
 {
-    !((m[SXFRCTL0] >> 3) % 2 == 1) & !((m[SXFRCTL0] >> 6) % 2 == 1)
+    !spioen(m) & !dmaen(m)
 }
 
 pub fn automatic(m: &Image) -> bool
     ensures { result ≡ automatic (registers_at m.now) }
 {
-    ((m[SXFRCTL0] >> 3) % 2 == 1) & !((m[SXFRCTL0] >> 6) % 2 == 1)
+    spioen(m) & !dmaen(m)
 }
 
 pub fn normal(m: &Image) -> bool
     ensures { result ≡ normal (registers_at m.now) }
 {
-    !((m[SXFRCTL0] >> 3) % 2 == 1) & ((m[SXFRCTL0] >> 6) % 2 == 1)
+    !spioen(m) & dmaen(m)
 }
 
 // "Connected: BSY seen, SEL and RST not.", and "the phase is not arbitrating"
@@ -82,57 +86,42 @@ pub fn connected(m: &Image) -> bool
 pub fn matched(m: &Image) -> bool
     ensures { result ≡ matched (state_at m.now) }
 {
-    if (m[LINES_CONTROL] >> 5) % 8 == (m[SCSISIG] >> 5) % 8 {
-        connected(m)
-    } else {
-        false
-    }
+    (m[LINES_CONTROL] >> 5) % 8 == (m[SCSISIG] >> 5) % 8 && connected(m)
 }
 
 // Connected and not matched.
 pub fn mismatched(m: &Image) -> bool
     ensures { result ≡ mismatched (state_at m.now) }
 {
-    if (m[LINES_CONTROL] >> 5) % 8 == (m[SCSISIG] >> 5) % 8 {
-        false
-    } else {
-        connected(m)
-    }
+    (m[LINES_CONTROL] >> 5) % 8 != (m[SCSISIG] >> 5) % 8 && connected(m)
 }
 
 // "Path: Normal, and WRITE differs from IOEXP (343h bit 6)."
 pub fn path(m: &Image) -> bool
     ensures { result ≡ path (registers_at m.now) }
 {
-    if normal(m) {
-        !(((m[DMACNTRL0] >> 3) % 2 == 1) == ((m[SCSISIG] >> 6) % 2 == 1))
-    } else {
-        false
-    }
+    normal(m) && write(m) != ((m[SCSISIG] >> 6) % 2 == 1)
 }
 
 // "Synchronous: SOFS not 0, CD and MSG not seen"
 pub fn synchronous(m: &Image) -> bool
     ensures { result ≡ synchronous (state_at m.now) }
 {
-    !((m[SCSIRATE] >> 0) % 16 == 0)
-        & !((m[LINES_CONTROL] >> 7) % 2 == 1)
-        & !((m[LINES_CONTROL] >> 5) % 2 == 1)
+    ((m[SCSIRATE] >> 0) % 16 != 0) & !cd_seen(m) & !msg_seen(m)
 }
 
 // "limit = smaller of SOFS and 8"
 pub fn limit(m: &Image) -> u8
     ensures { result ≡ limit (registers_at m.now) }
 {
-    let sofs = (m[SCSIRATE] >> 0) % 16;
-    if sofs <= 8 { sofs } else { 8 }
+    ((m[SCSIRATE] >> 0) % 16).min(8)
 }
 
 // "ACKO drives ACK in Manual mode only, uncounted."
 pub fn ack_driven(m: &Image) -> bool
     ensures { result ≡ ack_driven (state_at m.now) }
 {
-    (m[ACK] == 1) | (manual(m) & ((m[SCSISIG] >> 0) % 2 == 1))
+    automatic_ack(m) | (manual(m) & ((m[SCSISIG] >> 0) % 2 == 1))
 }
 
 pub fn ack_seen(m: &Image) -> bool
@@ -146,15 +135,7 @@ pub fn ack_seen(m: &Image) -> bool
 fn byte_driving(m: &Image) -> bool
     ensures { result ≡ byte_driving (state_at m.now) }
 {
-    if manual(m) | automatic(m) | (normal(m) & (m[ACK] == 1)) {
-        if (m[LINES_CONTROL] >> 6) % 2 == 1 {
-            false
-        } else {
-            connected(m)
-        }
-    } else {
-        false
-    }
+    (manual(m) | automatic(m) | (normal(m) & automatic_ack(m))) && !io_seen(m) && connected(m)
 }
 
 // "Undriven data and parity are 0."
@@ -172,11 +153,7 @@ fn byte_driven(m: &Image) -> u8
 pub fn driving(m: &Image) -> bool
     ensures { result ≡ driving (state_at m.now) }
 {
-    if drives_data(phase(m)) {
-        true
-    } else {
-        byte_driving(m)
-    }
+    drives_data(phase(m)) || byte_driving(m)
 }
 
 pub fn data_driven(m: &Image) -> u8
@@ -194,4 +171,11 @@ pub fn data_seen(m: &Image) -> u8
     ensures { result ≡ data_seen (state_at m.now) }
 {
     m[LINES_DATA] | data_driven(m)
+}
+
+// "Quiet ticks: ... else ticks add, stopping at 8"; by `as`, since at most 8 is left
+pub fn quiet_added(quiet: u8, ticks: u32) -> u8
+    ensures { result ≡ min 8 (quiet + ticks) }
+{
+    (u64::from(quiet) + u64::from(ticks)).min(8) as u8
 }

@@ -77,5 +77,5 @@ pub fn control_byte(l: Lines) -> u8
 pub fn number_of(b0: u8, b1: u8, b2: u8) -> u32
     ensures { result ≡ b0 + 256 * b1 + 65536 * b2 }
 {
-    (b0 as u32) + 256 * (b1 as u32) + 65536 * (b2 as u32)
+    u32::from_le_bytes([b0, b1, b2, 0])
 }

@@ -1,11 +1,15 @@
 // The sequencer of R-1 in the bytes of an image: its phase, what the phase drives, and the whole of it by value.
-ghost use Rattle.std.specs.Prelude.{◌≡◌, ◌+◌, ◌%◌, ◌<◌};
+#![tactic(auto, unfolding(crate::specs::Image::state_at, rules::specs::Seen::is_phase, rules::specs::Seen::phase_number, rules::specs::Seen::phase_bsy, rules::specs::Seen::phase_sel, rules::specs::Seen::phase_drives, rules::specs::Seen::own_id, rules::specs::Seen::other_id, rules::specs::Seen::phase_data))]
+
+ghost use Rattle.std.specs.Prelude.{◌≡◌, ◌%◌, ◌^◌, ◌<◌};
+ghost use Rattle.std.proofs.lemmas.List.Edits.{sets};
 ghost use Rattle.rules.specs.Changed.{with_sequencer};
 ghost use Rattle.rules.specs.Counter.{counter_size};
-ghost use Rattle.rules.specs.Seen.{phase_number, is_phase, phase_bsy, phase_sel, phase_drives, own_id, other_id, phase_data};
+ghost use Rattle.rules.specs.Seen.{is_phase, phase_bsy, phase_sel, phase_drives, phase_data};
 ghost use Rattle.rules.specs.Registers.{scsiid_of};
 ghost use Rattle.rules.specs.declared.chip.Phase.TheVariants.{Arbitrating};
-ghost use Rattle.image.specs.Image.{IsImage, image_of, state_at, phase_of, sequencer_byte, selection_byte, selection_of};
+ghost use Rattle.image.specs.Image.{IsImage, image_of, state_at, phase_of, sequencer_byte, sequencer_bytes, selection_byte, selection_of};
+ghost use Rattle.image.specs.Layout.{sequencer_place};
 
 use crate::bytes::number_of;
 use crate::layout::{
@@ -14,6 +18,7 @@ use crate::layout::{
 use laws::byte_of;
 use rules::chip::{Phase, Selection, Sequencer};
 
+// From a number to an enum only a match leads; 8 and up is no phase's number.
 fn phase_of(n: u8) -> Phase
     ensures { result ≡ phase_of n }
 {
@@ -40,107 +45,49 @@ pub fn phase(m: &Image) -> Phase
 pub fn drives_bsy(p: Phase) -> bool
     ensures { result ≡ phase_bsy p }
 {
-    match p {
-        Phase::Idle => false,
-        Phase::Waiting => false,
-        Phase::Arbitrating => true,
-        Phase::Clearing => true,
-        Phase::Selecting => false,
-        Phase::Holding => false,
-        Phase::Answering => false,
-        Phase::Answered => true,
-    }
+    matches!(p, Phase::Arbitrating | Phase::Clearing | Phase::Answered)
 }
 
 // "clearing BSY, SEL; selecting, holding SEL"
 pub fn drives_sel(p: Phase) -> bool
     ensures { result ≡ phase_sel p }
 {
-    match p {
-        Phase::Idle => false,
-        Phase::Waiting => false,
-        Phase::Arbitrating => false,
-        Phase::Clearing => true,
-        Phase::Selecting => true,
-        Phase::Holding => true,
-        Phase::Answering => false,
-        Phase::Answered => false,
-    }
+    matches!(p, Phase::Clearing | Phase::Selecting | Phase::Holding)
 }
 
 // Does the sequencer give data?
 pub fn drives_data(p: Phase) -> bool
     ensures { result ≡ phase_drives p }
 {
-    match p {
-        Phase::Idle => false,
-        Phase::Waiting => false,
-        Phase::Arbitrating => true,
-        Phase::Clearing => true,
-        Phase::Selecting => true,
-        Phase::Holding => true,
-        Phase::Answering => false,
-        Phase::Answered => false,
-    }
+    matches!(
+        p,
+        Phase::Arbitrating | Phase::Clearing | Phase::Selecting | Phase::Holding
+    )
 }
 
 pub fn is_arbitrating(p: Phase) -> bool
     ensures { result ≡ is_phase Arbitrating p }
 {
-    match p {
-        Phase::Idle => false,
-        Phase::Waiting => false,
-        Phase::Arbitrating => true,
-        Phase::Clearing => false,
-        Phase::Selecting => false,
-        Phase::Holding => false,
-        Phase::Answering => false,
-        Phase::Answered => false,
-    }
+    p == Phase::Arbitrating
 }
 
-// "own = 1 shifted by OID", of 345h as written
-fn own_id(id: u8) -> u8
-    ensures { result ≡ own_id (scsiid_of id) }
+// "1 shifted by" a number of three bits
+fn id_bit(number: u8) -> u8
+    ensures { result ≡ 2 ^ (number % 8) }
 {
-    1 << ((id >> 4) % 8)
+    1 << (number % 8)
 }
 
-// "other = 1 shifted by TID"
-fn other_id(id: u8) -> u8
-    ensures { result ≡ other_id (scsiid_of id) }
-{
-    1 << ((id >> 0) % 8)
-}
-
-// "arbitrating, clearing own; selecting, holding own and other"
+// "arbitrating, clearing own; selecting, holding own and other", own by OID, other by TID of 345h as written
 pub fn phase_data(p: Phase, id: u8) -> u8
     ensures { result ≡ phase_data p (scsiid_of id) }
 {
+    let own = id_bit((id >> 4) % 8);
+    let other = id_bit((id >> 0) % 8);
     match p {
-        Phase::Idle => 0,
-        Phase::Waiting => 0,
-        Phase::Arbitrating => own_id(id),
-        Phase::Clearing => own_id(id),
-        Phase::Selecting => own_id(id) | other_id(id),
-        Phase::Holding => own_id(id) | other_id(id),
-        Phase::Answering => 0,
-        Phase::Answered => 0,
-    }
-}
-
-pub fn phase_number(p: Phase) -> u8
-    ensures { result ≡ phase_number p }
-{
-    match p {
-        Phase::Idle => 0,
-        Phase::Waiting => 1,
-        Phase::Arbitrating => 2,
-        Phase::Clearing => 3,
-        Phase::Selecting => 4,
-        Phase::Holding => 5,
-        Phase::Answering => 6,
-        Phase::Answered => 7,
+        Phase::Arbitrating | Phase::Clearing => own,
+        Phase::Selecting | Phase::Holding => own | other,
+        Phase::Idle | Phase::Waiting | Phase::Answering | Phase::Answered => 0,
     }
 }
 
@@ -166,8 +113,7 @@ pub fn selection_byte(k: Selection) -> u8
 pub fn sequencer_byte(q: Sequencer) -> u8
     ensures { result ≡ sequencer_byte q }
 {
-    let p = q.phase;
-    let flags = byte_of(
+    byte_of(
         q.status.seldo,
         q.status.seldi,
         q.status.selto,
@@ -176,8 +122,7 @@ pub fn sequencer_byte(q: Sequencer) -> u8
         false,
         false,
         false,
-    );
-    flags + phase_number(p)
+    ) + u8::from(q.phase)
 }
 
 // The sequencer by value.
@@ -185,23 +130,32 @@ pub fn sequencer(m: &Image) -> Sequencer
     ensures { result ≡ (state_at m.now).sequencer }
 {
     let v = m[SEQUENCER];
-    let p = phase(m);
-    let status = Selection {
-        seldo: (v >> 7) % 2 == 1,
-        seldi: (v >> 6) % 2 == 1,
-        selingo: (v >> 3) % 2 == 1,
-        selto: (v >> 5) % 2 == 1,
-    };
-    let latches = selection_of(m[SELECTION_LATCHES]);
-    let ticks = number_of(m[TICKS_LOW], m[TICKS_MIDDLE], m[TICKS_HIGH]);
     Sequencer {
-        phase: p,
-        ticks: ticks,
+        phase: phase(m),
+        ticks: number_of(m[TICKS_LOW], m[TICKS_MIDDLE], m[TICKS_HIGH]),
         noted: (v >> 4) % 2 == 1,
         selid: m[SELID],
-        status: status,
-        latches: latches,
+        status: Selection {
+            seldo: (v >> 7) % 2 == 1,
+            seldi: (v >> 6) % 2 == 1,
+            selingo: (v >> 3) % 2 == 1,
+            selto: (v >> 5) % 2 == 1,
+        },
+        latches: selection_of(m[SELECTION_LATCHES]),
     }
+}
+
+// The sequencer's bytes, whatever stands in the others.
+pub fn sequencer_placed(m: &mut Image, q: Sequencer)
+    ensures { (m.new ≡ sets m.old sequencer_place (sequencer_bytes q)) × (q.selid < 256) }
+{
+    let [_, high, middle, low] = q.ticks.to_be_bytes();
+    m[SEQUENCER] = sequencer_byte(q);
+    m[SELECTION_LATCHES] = selection_byte(q.latches);
+    m[TICKS_HIGH] = high;
+    m[TICKS_MIDDLE] = middle;
+    m[TICKS_LOW] = low;
+    m[SELID] = q.selid;
 }
 
 // Another sequencer in its bytes.
@@ -210,14 +164,5 @@ pub fn sequencer_put(m: &mut Image, q: Sequencer)
     requires ticks_lt_counter_size { q.ticks < counter_size }
     ensures { m.new ≡ image_of (with_sequencer q (state_at m.old)) }
 {
-    let ticks = q.ticks;
-    let latches = q.latches;
-    let v = sequencer_byte(q);
-    let k = selection_byte(latches);
-    m[SEQUENCER] = v;
-    m[SELECTION_LATCHES] = k;
-    m[TICKS_HIGH] = ((ticks >> 16) % 256) as u8;
-    m[TICKS_MIDDLE] = ((ticks >> 8) % 256) as u8;
-    m[TICKS_LOW] = ((ticks >> 0) % 256) as u8;
-    m[SELID] = q.selid;
+    sequencer_placed(m, q);
 }

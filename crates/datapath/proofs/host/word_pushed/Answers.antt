@@ -28,13 +28,6 @@ module _ {m : List ℕ} {s : State} (p : FitsPlaces s) (e : m ≡ image_of s) (b
       let k : get_or a host_count_place 0 ≡ length s.transfer.host + 1 = host_counts low_placed low_first ∙ length-append s.transfer.host (b ∷ []) in
       omega arith
 
-pub push-requires : goal.push-requires
-push-requires c = omega (arith, c.requires.host_count_place_bound)
-
-pub push-requires-2 : goal.push-requires-2
-push-requires-2 c =
-    room_left (placed_at c.args.m.now c.requires.image) c.requires.image.packed (c.args.word % 256) c.requires.host_count_place_bound c.push.ensures
-
 pub returns : goal.returns
 returns c =
     let w = c.args.word in
@@ -42,7 +35,10 @@ returns c =
     let p = placed_at c.args.m.now c.requires.image in
     let e = c.requires.image.packed in
     let h = c.requires.host_count_place_bound in
-    let f = c.push.ensures in
-    c.push-2.ensures
-    ∙ host_one_more (with_host (s.transfer.host ++ (w % 256 ∷ [])) s) (low_first p e (w % 256) h f) (low_placed p e (w % 256) h f) (w / 256) (room_left p e (w % 256) h f)
+    let f = rw c.to_le_bytes.ensures at c.byte_put.ensures in
+    let g = rw c.to_le_bytes.ensures at c.byte_put-2.ensures in
+    let high : w / 256 % 256 ≡ w / 256 = omega (arith, c.ranges.word.fits) in
+    g
+    ∙ host_one_more (with_host (s.transfer.host ++ (w % 256 ∷ [])) s) (low_first p e (w % 256) h f) (low_placed p e (w % 256) h f) (w / 256 % 256) (room_left p e (w % 256) h f)
+    ∙ ap (λ (b : ℕ). image_of (with_host ((s.transfer.host ++ (w % 256 ∷ [])) ++ (b ∷ [])) s)) high
     ∙ ap (λ (l : List ℕ). image_of (with_host l s)) (append_assoc s.transfer.host (w % 256 ∷ []) (w / 256 ∷ []))

@@ -1,31 +1,22 @@
-use mathlib.Core.Path.{◌≡◌, ◌∙◌}
+use mathlib.Core.Path.{refl, ◌∙◌}
 use native.Mathlib.Omega.{arith}
-use lib.ListN.{length}
+use lib.ListN.{get_or}
 use Rattle.image.specs.Image.{state_at}
-use Rattle.datapath.proofs.Fronts.{image_length, placed_at}
+use Rattle.image.specs.Layout.{scsi_count_place}
+use Rattle.datapath.proofs.Fronts.{placed_at}
 use Rattle.datapath.proofs.Heads.{scsi_counted}
 use Rattle.datapath.proofs.Ends.{scsi_off}
 use Rattle.datapath.proofs.scsi.scsi_popped.Goals as goal
-use Rattle.datapath.proofs.scsi.scsi_popped.Goals.{After-wide-n}
 
-held : (c : After-wide-n) → c.wide-n.result ≡ length (state_at c.args.m.now).transfer.scsi
-held c =
+pub taken_off-requires-clause-places : goal.taken_off-requires-clause-places
+taken_off-requires-clause-places c =
     let p = placed_at c.args.m.now c.requires.image in
-    c.wide-n.ensures ∙ scsi_counted (state_at c.args.m.now) c.requires.image.packed p
-
-pub moved_down-requires : goal.moved_down-requires
-moved_down-requires c =
-    let p = placed_at c.args.m.now c.requires.image in
-    record { m_len = image_length p c.requires.image.packed; n_bound = omega (arith, held (goal.at.moved_down-requires c).After-wide-n, p.scsi); k_le_n = omega (arith, c.wide-n.ensures, c.requires.k_bound) }
-
-pub overflow_sub-m : goal.overflow_sub-m
-overflow_sub-m c = omega (arith, c.wide-n.ensures, c.requires.k_bound)
-
-pub overflow_cast-m : goal.overflow_cast-m
-overflow_cast-m c =
-    omega (arith, held (goal.at.overflow_cast-m c).After-wide-n, (placed_at c.args.m.now c.requires.image).scsi)
+    omega (arith, scsi_counted (state_at c.args.m.now) c.requires.image.packed p, p.scsi)
 
 pub returns : goal.returns
 returns c =
     let m = c.args.m.now in
-    scsi_off (state_at m) c.requires.image.packed (placed_at m c.requires.image) c.wide-n.result c.args.k (held (goal.at.returns c).After-wide-n) (omega (arith, held (goal.at.returns c).After-wide-n, c.wide-n.ensures, c.requires.k_bound)) c.moved_down.ensures
+    let p = placed_at m c.requires.image in
+    let e = c.requires.image.packed in
+    let u = scsi_counted (state_at m) e p in
+    c.taken_off.ensures ∙ scsi_off (state_at m) e p (get_or m scsi_count_place 0) c.args.k u (omega (arith, u, c.requires.k_bound)) refl

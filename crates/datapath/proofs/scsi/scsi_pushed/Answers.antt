@@ -12,6 +12,3 @@ returns c =
     let m = c.args.m.now in
     let p = placed_at m c.requires.image in
     c.byte_stored.ensures ∙ scsi_one_more (state_at m) c.requires.image.packed p (get_or m scsi_count_place 0) c.args.b (scsi_counted (state_at m) c.requires.image.packed p) c.requires.scsi_count_place_bound
-
-pub byte_stored-requires : goal.byte_stored-requires
-byte_stored-requires c = c.requires.scsi_count_place_bound

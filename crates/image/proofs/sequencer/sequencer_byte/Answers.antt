@@ -9,4 +9,4 @@ overflow_add-result c =
     let q = c.args.q in
     let t = q.status in
     omega
-    (arith, c.byte_of-flags.ensures, c.phase_number.ensures, phase_below q.phase, one_below t.seldo, one_below t.seldi, one_below t.selto, one_below q.noted, one_below t.selingo)
+    (arith, c.byte_of.ensures, c.from.ensures, phase_below q.phase, one_below t.seldo, one_below t.seldi, one_below t.selto, one_below q.noted, one_below t.selingo)

@@ -1,5 +1,0 @@
-use borrow.Author.Rules.{rules}
-use Rattle.chips.proofs.put.put_flags.Goals as goal
-
-pub returns : goal.returns
-returns c = (cc, search rules)
