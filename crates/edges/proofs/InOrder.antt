@@ -11,12 +11,11 @@ use Rattle.rules.specs.StepB.{req_falls, ack_released, after_req_falls, rst_rise
 use Rattle.rules.specs.Changed.{with_status, with_quiet}
 use Rattle.rules.specs.Sequencer.{selection_freed}
 use Rattle.image.specs.Image.{state_at}
-use Rattle.rules.specs.declared.chip.Status.{Status}
 use Rattle.rules.proofs.InOrder.{falls_keeps}
 use Rattle.rules.proofs.Logic.{never, left_true}
 use Rattle.edges.specs.Components.{registers_b, transfer_b, status_b}
 use Rattle.edges.specs.From.{rst_rises_from, req_rises_from, synchronous_req_from, quiet_from, edges_from, applied_from}
-use Rattle.edges.specs.Frequent.{phase_b}
+use Rattle.edges.specs.Frequent.{raised_b, phase_b}
 use Rattle.edges.specs.ParityKept.{kept_of, kept_from}
 use Rattle.edges.proofs.ParityKept.{kept_none, kept_data}
 use Rattle.edges.specs.Since.{last_of, five_in_order, beyond_since, rst_of, req_of, mismatched_of}
@@ -80,39 +79,23 @@ module _ (last now : State) where
   unrisen u = falls_keeps (λ n. req_rises last n ≡ false) last now u (λ h. h)
 
 -- the last two steps of a state, where it is known whether the bus becomes free
-abbrev phased : Bool → Status → Status
-phased changed k =
-    record {
-      spiordy = k.spiordy;
-      scsirsti = k.scsirsti;
-      busfree = k.busfree;
-      scsiperr = k.scsiperr;
-      phasechg = changed || k.phasechg;
-      reqinit = k.reqinit;
-      syncerr = k.syncerr;
-      fwerr = k.fwerr;
-    }
-
-abbrev phased_in : Bool → State → State
-phased_in was n = with_status (phased (mismatched n && not was) n.status) n
-
 abbrev ends_by : Bool → Bool → ℕ → State → State
-ends_by was free quiet n = phased_in was (cond free (bus_freed (with_quiet quiet n)) (with_quiet quiet n))
+ends_by was free quiet n = phase_b was (cond free (bus_freed (with_quiet quiet n)) (with_quiet quiet n))
 
-phase_step : (last n : State) → after_phase_changes last n ≡ phased_in (mismatched last) n
+phase_step : (last n : State) → after_phase_changes last n ≡ phase_b (mismatched last) n
 unfolding after_phase_changes phase_changes phase_changed
 phase_step last n = go (mismatched n && not (mismatched last))
   where
-    go : (b : Bool) → cond b (phase_changed n) n ≡ with_status (phased b n.status) n
+    go : (b : Bool) → cond b (phase_changed n) n ≡ with_status (raised_b b false false n.status) n
     go true = refl
     go false = refl
 
--- the edges with a bus reset, with a REQ that rises, and with neither
-abbrev reset_edges : Bool → Bool → ℕ → Edges
-reset_edges falls free quiet =
+-- the edges where no REQ rises, with a bus reset or without one, and those where one does
+abbrev pub unrisen_edges : Bool → Bool → Bool → ℕ → Edges
+unrisen_edges reset falls free quiet =
     record {
       reqfalls = falls;
-      rstrises = true;
+      rstrises = reset;
       reqrises = false;
       paritybad = false;
       beyond = false;
@@ -138,30 +121,15 @@ risen_edges now free quiet =
       quiet = quiet;
     }
 
-abbrev other_edges : Bool → Bool → ℕ → Edges
-other_edges falls free quiet =
-    record {
-      reqfalls = falls;
-      rstrises = false;
-      reqrises = false;
-      paritybad = false;
-      beyond = false;
-      within = false;
-      stored = false;
-      late = false;
-      free = free;
-      quiet = quiet;
-    }
-
 module _ (was : Bool) (now : State) where
-  applied_reset : (falls free : Bool) (quiet : ℕ) → applied_from (reset_edges falls free quiet) was now ≡ ends_by was free quiet (bus_reset now)
+  applied_reset : (falls free : Bool) (quiet : ℕ) → applied_from (unrisen_edges true falls free quiet) was now ≡ ends_by was free quiet (bus_reset now)
   unfolding applied_from registers_b transfer_b status_b bus_reset bus_freed selection_freed mismatched matched connected bsy_seen sel_seen rst_seen
   applied_reset true true quiet = refl
   applied_reset true false quiet = refl
   applied_reset false true quiet = refl
   applied_reset false false quiet = refl
 
-  applied_other : (falls free : Bool) (quiet : ℕ) → applied_from (other_edges falls free quiet) was now ≡ ends_by was free quiet (cond falls (ack_released now) now)
+  applied_other : (falls free : Bool) (quiet : ℕ) → applied_from (unrisen_edges false falls free quiet) was now ≡ ends_by was free quiet (cond falls (ack_released now) now)
   unfolding applied_from registers_b transfer_b status_b ack_released bus_freed selection_freed mismatched matched connected bsy_seen sel_seen rst_seen
   applied_other true true quiet = refl
   applied_other true false quiet = refl
@@ -191,7 +159,7 @@ module _ (last : State) (ticks : ℕ) (now : State) where
   abbrev was : Bool
   was = mismatched last
 
-  edges_reset : rst_rises last now ≡ true → edges_from rst req now ticks ≡ reset_edges (req_falls last now) (bus_free ticks (bus_reset now)) (quiet_after ticks (bus_reset now))
+  edges_reset : rst_rises last now ≡ true → edges_from rst req now ticks ≡ unrisen_edges true (req_falls last now) (bus_free ticks (bus_reset now)) (quiet_after ticks (bus_reset now))
   unfolding edges_from rst_rises_from req_rises_from synchronous_req_from quiet_from req_falls rst_rises bus_reset quiet_after bus_free registers_b bsy_seen sel_seen
   edges_reset r = rw (r, left_true (rst_seen now) (not rst) r, and-false)
 
@@ -199,7 +167,7 @@ module _ (last : State) (ticks : ℕ) (now : State) where
   unfolding edges_from rst_rises_from req_rises_from synchronous_req_from quiet_from req_falls rst_rises req_rises synchronous_req req_within req_risen quiet_after bus_free registers_b bsy_seen sel_seen
   edges_risen r u = rw (risen_not_fallen last now u, r, u)
 
-  edges_other : rst_rises last now ≡ false → req_rises last now ≡ false → edges_from rst req now ticks ≡ other_edges (req_falls last now) (bus_free ticks now) (quiet_after ticks now)
+  edges_other : rst_rises last now ≡ false → req_rises last now ≡ false → edges_from rst req now ticks ≡ unrisen_edges false (req_falls last now) (bus_free ticks now) (quiet_after ticks now)
   unfolding edges_from rst_rises_from req_rises_from synchronous_req_from quiet_from req_falls rst_rises req_rises quiet_after bus_free registers_b bsy_seen sel_seen
   edges_other r u = rw (r, u)
 
@@ -214,14 +182,14 @@ module _ (last : State) (ticks : ℕ) (now : State) where
 
   -- the phase judged against any mismatch, whether it was seen or not
   abbrev Ordered : Bool → Type 0
-  Ordered w = phased_in w (first_four last ticks now) ≡ applied_from (edges_from rst req now ticks) w (kept_from req now)
+  Ordered w = phase_b w (first_four last ticks now) ≡ applied_from (edges_from rst req now ticks) w (kept_from req now)
 
   -- what "REQ rises" is handed, and the state that it leaves
-  handed : (w : Bool) {n m : State} → after_rst_rises last (after_req_falls last now) ≡ n → after_req_rises last n ≡ m → phased_in w (first_four last ticks now) ≡ ends_by w (bus_free ticks m) (quiet_after ticks m) m
+  handed : (w : Bool) {n m : State} → after_rst_rises last (after_req_falls last now) ≡ n → after_req_rises last n ≡ m → phase_b w (first_four last ticks now) ≡ ends_by w (bus_free ticks m) (quiet_after ticks m) m
   unfolding first_four after_quiet_ticks
   handed w {n} {m} a b =
-      ap (λ (x : State). phased_in w (after_quiet_ticks ticks (after_req_rises last x))) a
-      ∙ ap (λ (x : State). phased_in w (after_quiet_ticks ticks x)) b
+      ap (λ (x : State). phase_b w (after_quiet_ticks ticks (after_req_rises last x))) a
+      ∙ ap (λ (x : State). phase_b w (after_quiet_ticks ticks x)) b
 
   side : (w : Bool) {g : Edges} {n : State} → edges_from rst req now ticks ≡ g → kept_from req now ≡ n → applied_from g w n ≡ applied_from (edges_from rst req now ticks) w (kept_from req now)
   side w e k = λ i. applied_from (sym e i) w (sym k i)
@@ -268,7 +236,7 @@ module _ (last : State) (ticks : ℕ) (now : State) where
   in_order_lem = phase_step last (first_four last ticks now) ∙ ordered was
 
   -- and so are the four, where a mismatch is taken to have been seen
-  unphased : (n : State) → n ≡ phased_in true n
+  unphased : (n : State) → n ≡ phase_b true n
   unphased n = rw (and-false (mismatched n))
 
   pub four_in_order : first_four last ticks now ≡ applied_from (edges_from rst req now ticks) true (kept_from req now)

@@ -1,7 +1,7 @@
 -- The frequent parts in turn, where the tests for what is rare have failed.
 use Prim.Native.Nat.{ℕ}
 use mathlib.Core.Path.{◌≡◌, refl, ap, sym, ◌∙◌}
-use mathlib.Core.Bool.{Bool, false, not, ◌&&◌}
+use mathlib.Core.Bool.{Bool, true, false, not, ◌&&◌, ◌||◌, false≢true}
 use mathlib.Core.List.{List}
 use lib.Dec.{leb}
 use lib.ListN.{get_or, set}
@@ -18,6 +18,18 @@ use Rattle.edges.specs.Frequent.{phase_b, req_b}
 use Rattle.edges.proofs.Laws.{inbound_checked}
 use Rattle.edges.proofs.Placed.{quiet_placed, quiet_kept, status_kept, packed_as}
 use Rattle.edges.proofs.Frequent.{frequent}
+
+-- none of the three that are rare
+pub record None (a b c : Bool) : Type 0 where
+  pub first : a ≡ false
+  pub second : b ≡ false
+  pub third : c ≡ false
+
+pub none : (a b c : Bool) → (a || b || c) ≡ false → None a b c
+none false false false e = record { first = refl; second = refl; third = refl }
+none true b c e = absurd (false≢true (sym e))
+none false true c e = absurd (false≢true (sym e))
+none false false true e = absurd (false≢true (sym e))
 
 -- the tests, of the state
 module _ (m : List ℕ) (rst req : Bool) (ticks : ℕ) where

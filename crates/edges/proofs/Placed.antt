@@ -21,8 +21,9 @@ use Rattle.rules.specs.Changed.{with_registers, with_status, with_quiet, with_se
 use Rattle.rules.specs.Sequencer.{selection_freed}
 use Rattle.rules.specs.declared.chip.Sequencer.{Sequencer}
 use Rattle.image.specs.Image.{image_of, state_at, IsImage, head_of, scsisig_byte, sequencer_byte, status_of, status_byte}
-use Rattle.image.proofs.EightBits.{is_one}
-use Rattle.image.proofs.ReadBack.{scsiseq_back, sxfrctl0_back, scsisig_back, status_back, phase_of_byte, noted_of_byte, statuses_of_byte}
+use Rattle.laws.proofs.EightBits.{is_one}
+use Rattle.registers.specs.Kept.{scsiseq_back, sxfrctl0_back}
+use Rattle.image.proofs.ReadBack.{scsisig_back, status_back, phase_of_byte, noted_of_byte, statuses_of_byte}
 use Rattle.image.specs.Layout.{ack_place, offset_place, quiet_place, scsi_bytes_place, scsi_count_place, scsiseq_place, scsisig_place, sequencer_place, status_place, sxfrctl0_place}
 use Rattle.laws.proofs.Lists.{padded_push, padded_length}
 use Rattle.edges.specs.Components.{scsiseq_b, sxfrctl0_b, scsisig_b, registers_b, transfer_b, stored_b, offset_b}

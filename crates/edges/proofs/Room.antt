@@ -1,7 +1,7 @@
 -- The edges that B finds leave room for their effects.
 use Prim.Native.Nat.{ℕ, ◌<◌}
-use mathlib.Core.Path.{◌≡◌, refl, ap, sym, ◌∙◌}
-use mathlib.Core.Bool.{Bool, true, false, not, ◌&&◌, ◌||◌}
+use mathlib.Core.Path.{◌≡◌, ap, sym, ◌∙◌}
+use mathlib.Core.Bool.{Bool, true, false, not, ◌&&◌}
 use mathlib.Core.List.{List}
 use native.Mathlib.Omega.{arith}
 use borrow.Author.Tests.{leb-false}
@@ -12,21 +12,10 @@ use Rattle.rules.specs.Seen.{io_seen, limit}
 use Rattle.rules.specs.StepB.{beyond_limit}
 use Rattle.image.specs.Image.{state_at}
 use Rattle.image.specs.Layout.{offset_place, scsi_count_place}
+use Rattle.rules.proofs.Ranges.{below_limit, stored_room}
 use Rattle.edges.specs.From.{synchronous_req_from, edges_from}
 use Rattle.edges.specs.Room.{Room}
 use Rattle.edges.specs.Tests.{past_limit}
-
-below_limit : (g a b : Bool) → (g && not (a || b)) ≡ true → a ≡ false
-below_limit g false b e = refl
-below_limit true true b e = sym e
-below_limit false true b e = sym e
-
-stored_room : (g a i c : Bool) → (g && not (a || (i && c)) && i) ≡ true → c ≡ false
-stored_room g a i false e = refl
-stored_room true true i true e = sym e
-stored_room true false true true e = sym e
-stored_room true false false true e = sym e
-stored_room false a i true e = sym e
 
 module _ (rst req : Bool) (s : State) (ticks : ℕ) where
   offset_room : (edges_from rst req s ticks).within ≡ true → s.transfer.offset < 8

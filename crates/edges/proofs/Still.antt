@@ -1,12 +1,13 @@
 -- Where the bytes seen are the same and no tick came, B changes the quiet ticks alone.
 use Prim.Native.Nat.{ℕ, ◌+◌, ◌<◌, min}
 use mathlib.Core.Path.{◌≡◌, refl, ap, sym, ◌∙◌}
-use mathlib.Core.Bool.{Bool, true, false, not, ◌&&◌, cond}
+use mathlib.Core.Bool.{Bool, true, false, not, ◌&&◌, cond, and-false}
 use mathlib.Core.List.{List}
 use native.Mathlib.Omega.{arith}
 use lib.Dec.{eqb, leb}
 use lib.ListN.{get_or, set}
 use borrow.Author.Tests.{eqb-true, leb-false, lt-leb}
+use Rattle.std.proofs.Math.Bool.{and-not_self}
 use Rattle.rules.specs.State.{State}
 use Rattle.rules.specs.Seen.{rst_seen, sel_seen, bsy_seen, req_seen, connected, matched, mismatched}
 use Rattle.rules.specs.StepB.{quiet_after}
@@ -21,7 +22,7 @@ use Rattle.edges.specs.From.{rst_rises_from, req_rises_from, synchronous_req_fro
 use Rattle.edges.specs.ParityKept.{kept_from}
 use Rattle.edges.proofs.ParityKept.{kept_none}
 use Rattle.edges.specs.Since.{seen_of, last_of, five_in_order, beyond_since, rst_of, req_of, mismatched_of}
-use Rattle.edges.proofs.InOrder.{since, beyond_since_lem}
+use Rattle.edges.proofs.InOrder.{unrisen_edges, since, beyond_since_lem}
 use Rattle.edges.proofs.Placed.{quiet_placed}
 
 -- what is read off the five bytes of an array is what is seen there
@@ -57,21 +58,9 @@ same_bytes_lem m x h =
       sequencer = eqb-true (get_or m sequencer_place 0) x.sequencer (right_true (a && b && c && d) e h) i;
     }
 
-and_not : (a : Bool) → (a && not a) ≡ false
-and_not true = refl
-and_not false = refl
-
-rises_not : (a b : Bool) → (a && not a && b) ≡ false
-rises_not true b = refl
-rises_not false b = refl
-
-right_false : (y : Bool) → (y && false) ≡ false
-right_false true = refl
-right_false false = refl
-
 -- quiet ticks that stood below 8 stay there
 stays_by : (q : ℕ) (x : Bool) → leb 8 q ≡ x → (leb 8 (min 8 (q + 0)) && not (leb 8 q)) ≡ false
-stays_by q true e = rw e (right_false (leb 8 (min 8 (q + 0))))
+stays_by q true e = rw e (and-false (leb 8 (min 8 (q + 0))))
 stays_by q false e =
     let h : min 8 (q + 0) < 8 = omega (arith, leb-false 8 q e) in
     ap (λ (y : Bool). y && not (leb 8 q)) (lt-leb 8 (min 8 (q + 0)) h)
@@ -82,7 +71,7 @@ stays false q = stays_by q (leb 8 q) refl
 
 -- nothing rises, nothing falls
 abbrev still_at : ℕ → Edges
-still_at q = record { reqfalls = false; rstrises = false; reqrises = false; paritybad = false; beyond = false; within = false; stored = false; late = false; free = false; quiet = q }
+still_at q = unrisen_edges false false false q
 
 module _ (s : State) where
   abbrev rst : Bool
@@ -93,27 +82,27 @@ module _ (s : State) where
 
   still : edges_from rst req s 0 ≡ still_at (quiet_from rst s 0)
   unfolding edges_from rst_rises_from req_rises_from synchronous_req_from quiet_from quiet_after
-  still = rw (and_not rst, rises_not req (not rst), and_not req, stays (busy_b false s) s.quiet)
+  still = rw (and-not_self rst, and-not_self req, stays (busy_b false s) s.quiet)
 
   -- BSY or SEL seen zeroes the quiet ticks; those that nothing adds to stay
   quiet_zeroed : busy_b false s ≡ true → 0 ≡ quiet_from rst s 0
   unfolding quiet_from quiet_after rst_rises_from
-  quiet_zeroed b = rw (and_not rst, b)
+  quiet_zeroed b = rw (and-not_self rst, b)
 
   quiet_left : busy_b false s ≡ false → s.quiet ≡ min 8 (s.quiet + 0) → s.quiet ≡ quiet_from rst s 0
   unfolding quiet_from quiet_after rst_rises_from
-  quiet_left b e = rw (and_not rst, b) e
+  quiet_left b e = rw (and-not_self rst, b) e
 
   unmoved : (q : ℕ) → applied_from (still_at q) (mismatched s) s ≡ with_quiet q s
   unfolding applied_from registers_b transfer_b status_b
-  unmoved q = rw (and_not (mismatched s))
+  unmoved q = rw (and-not_self (mismatched s))
 
   still_applied : applied_from (edges_from rst req s 0) (mismatched s) s ≡ with_quiet (quiet_from rst s 0) s
   still_applied = ap (λ (g : Edges). applied_from g (mismatched s) s) still ∙ unmoved (quiet_from rst s 0)
 
   req_still : req_rises_from req s ≡ false
   unfolding req_rises_from
-  req_still = rises_not req (not rst)
+  req_still = ap (λ (b : Bool). b && not rst) (and-not_self req)
 
   still_beyond : false ≡ (edges_from rst req s 0).beyond
   still_beyond = ap (λ (g : Edges). g.beyond) (sym still)

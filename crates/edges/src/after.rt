@@ -20,7 +20,7 @@ use image::layout::{
     ACK, Image, OFFSET, SCSI_BYTES, SCSI_COUNT, SCSISEQ, SCSISIG, SEQUENCER, STATUS, SXFRCTL0,
 };
 use image::sequencer::{sequencer, sequencer_byte};
-use registers::bytes::{scsiseq_byte, scsiseq_of, scsisig_of, sxfrctl0_byte, sxfrctl0_of};
+use registers::bytes::{Stored, scsisig_of};
 use rules::chip::{Selection, Sequencer, Status};
 use rules::registers::{Scsiseq, Scsisig, Sxfrctl0};
 
@@ -28,15 +28,13 @@ use rules::registers::{Scsiseq, Scsisig, Sxfrctl0};
 fn scsiseq_b(reset: bool, q: Scsiseq) -> Scsiseq
     ensures { result ≡ scsiseq_b reset q }
 {
-    Scsiseq {
-        temodeo: !reset & q.temodeo,
-        enselo: !reset & q.enselo,
-        enseli: !reset & q.enseli,
-        enrseli: !reset & q.enrseli,
-        enautoatno: !reset & q.enautoatno,
-        enautoatni: !reset & q.enautoatni,
-        enautoatnp: !reset & q.enautoatnp,
-        scsirsto: q.scsirsto,
+    if reset {
+        Scsiseq {
+            scsirsto: q.scsirsto,
+            ..Scsiseq::from_byte(0)
+        }
+    } else {
+        q
     }
 }
 
@@ -46,9 +44,7 @@ fn sxfrctl0_b(reset: bool, x: Sxfrctl0) -> Sxfrctl0
 {
     Sxfrctl0 {
         scsien: !reset & x.scsien,
-        dmaen: x.dmaen,
-        chen: x.chen,
-        spioen: x.spioen,
+        ..x
     }
 }
 
@@ -56,59 +52,40 @@ fn sxfrctl0_b(reset: bool, x: Sxfrctl0) -> Sxfrctl0
 fn scsisig_b(zeroed: bool, attention: bool, g: Scsisig) -> Scsisig
     ensures { result ≡ scsisig_b zeroed attention g }
 {
-    Scsisig {
-        cdexp: !zeroed & g.cdexp,
-        ioexp: !zeroed & g.ioexp,
-        msgexp: !zeroed & g.msgexp,
-        atno: !zeroed & (attention | g.atno),
-        selo: !zeroed & g.selo,
-        bsyo: !zeroed & g.bsyo,
-        reqo: !zeroed & g.reqo,
-        acko: !zeroed & g.acko,
+    if zeroed {
+        scsisig_of(false, 0)
+    } else {
+        Scsisig {
+            atno: attention | g.atno,
+            ..g
+        }
     }
 }
 
-fn scsiseq_after(reset: bool, v: u8) -> u8
-    ensures { result ≡ scsiseq_byte (scsiseq_b reset (scsiseq_of v)) }
+#[tactic(auto, unfolding(image::specs::Image::state_at))]
+fn registers_stored(m: &mut Image, g: Edges)
+    ensures { m.new ≡ registers_stored g.rstrises g.paritybad g.free m.old }
 {
-    let q = scsiseq_b(reset, scsiseq_of(v));
-    scsiseq_byte(q)
-}
-
-fn sxfrctl0_after(reset: bool, v: u8) -> u8
-    ensures { result ≡ sxfrctl0_byte (sxfrctl0_b reset (sxfrctl0_of v)) }
-{
-    let x = sxfrctl0_b(reset, sxfrctl0_of(v));
-    sxfrctl0_byte(x)
-}
-
-fn scsisig_after(zeroed: bool, attention: bool, v: u8) -> u8
-    ensures { result ≡ scsisig_byte (scsisig_b zeroed attention (scsisig_of false v)) }
-{
-    let g = scsisig_b(zeroed, attention, scsisig_of(false, v));
-    scsisig_byte(g)
-}
-
-fn registers_stored(m: &mut Image, reset: bool, bad: bool, free: bool)
-    ensures { m.new ≡ registers_stored reset bad free m.old }
-{
-    let attention = bad & enautoatnp(m);
-    let q = scsiseq_after(reset, m[SCSISEQ]);
-    let x = sxfrctl0_after(reset, m[SXFRCTL0]);
-    let g = scsisig_after(reset | free, attention, m[SCSISIG]);
-    m[SCSISEQ] = q;
-    m[SXFRCTL0] = x;
-    m[SCSISIG] = g;
+    let attention = g.paritybad & enautoatnp(m);
+    let q = scsiseq_b(g.rstrises, Scsiseq::from_byte(m[SCSISEQ]));
+    let x = sxfrctl0_b(g.rstrises, Sxfrctl0::from_byte(m[SXFRCTL0]));
+    let s = scsisig_b(
+        g.rstrises | g.free,
+        attention,
+        scsisig_of(false, m[SCSISIG]),
+    );
+    m[SCSISEQ] = q.to_byte();
+    m[SXFRCTL0] = x.to_byte();
+    m[SCSISIG] = scsisig_byte(s);
 }
 
 // The registers after a bus reset, a parity error and bus free; nothing else changes them here.
-pub fn registers_in(m: &mut Image, reset: bool, bad: bool, free: bool)
-    ensures { m.new ≡ cond (reset || bad || free) (registers_stored reset bad free m.old) m.old }
+pub fn registers_in(m: &mut Image, g: Edges)
+    ensures { m.new ≡ cond (g.rstrises || g.paritybad || g.free) (registers_stored g.rstrises g.paritybad g.free m.old) m.old }
 {
-    if !(reset | bad | free) {
-        return;
+    if g.rstrises | g.paritybad | g.free {
+        registers_stored(m, g);
     }
-    registers_stored(m, reset, bad, free);
 }
 
 // The byte that is stored; where none is, what is seen need not be known.
@@ -133,26 +110,23 @@ fn offset_b(zeroed: bool, within: bool, offset: u8) -> u8
     ensures { result ≡ cond zeroed 0 (cond within (offset + 1) offset) }
 {
     if zeroed {
-        return 0;
+        0
+    } else if within {
+        offset + 1
+    } else {
+        offset
     }
-    if within { offset + 1 } else { offset }
-}
-
-fn ack_b(released: bool, ack: bool) -> u8
-    ensures { result ≡ one (not released && ack) }
-{
-    (!released & ack) as u8
 }
 
 // "offset goes up one"; "automatic ACK is released"
+#[tactic(auto, unfolding(image::specs::Image::state_at))]
 fn offset_in(m: &mut Image, zeroed: bool, within: bool, released: bool)
     requires { within ≡ true → get_or m.old offset_place 0 < 8 }
     ensures { m.new ≡ offset_stored zeroed within released m.old }
 {
-    let offset = offset_b(zeroed, within, m[OFFSET]);
-    let ack = ack_b(released, automatic_ack(m));
-    m[OFFSET] = offset;
-    m[ACK] = ack;
+    let ack = !released & automatic_ack(m);
+    m[OFFSET] = offset_b(zeroed, within, m[OFFSET]);
+    m[ACK] = ack as u8;
 }
 
 // The data path after B; the host FIFO and the counter stay.
@@ -170,56 +144,42 @@ pub fn path_in(m: &mut Image, g: Edges, byte: u8)
     );
 }
 
+#[tactic(auto, unfolding(crate::specs::Components::status_b))]
 fn status_b(g: Edges, changed: bool, t: Status) -> Status
     ensures { result ≡ status_b g changed t }
 {
     Status {
-        spiordy: t.spiordy,
         scsirsti: g.rstrises | t.scsirsti,
         busfree: g.free | t.busfree,
         scsiperr: g.paritybad | t.scsiperr,
         phasechg: changed | t.phasechg,
         reqinit: g.reqrises | t.reqinit,
         syncerr: g.late | t.syncerr,
-        fwerr: t.fwerr,
+        ..t
     }
-}
-
-fn status_after(g: Edges, changed: bool, v: u8) -> u8
-    ensures { result ≡ status_byte (status_b g changed (status_of v)) }
-{
-    let t = status_b(g, changed, status_of(v));
-    status_byte(t)
 }
 
 // The status after B, where the phase changed or not.
 pub fn status_in(m: &mut Image, g: Edges, changed: bool)
     ensures { m.new ≡ status_stored (status_b g changed) m.old }
 {
-    let v = status_after(g, changed, m[STATUS]);
-    m[STATUS] = v;
+    m[STATUS] = status_byte(status_b(g, changed, status_of(m[STATUS])));
 }
 
 // SELDO becomes 0, and SELDI where it is noted.
+#[tactic(auto, unfolding(rules::specs::Sequencer::selection_freed))]
 fn freed(q: Sequencer) -> Sequencer
     ensures { result ≡ selection_freed q }
 {
-    let t = q.status;
-    let latches = q.latches;
-    let phase = q.phase;
     let status = Selection {
         seldo: false,
-        seldi: !q.noted & t.seldi,
-        selingo: t.selingo,
-        selto: t.selto,
+        seldi: !q.noted & q.status.seldi,
+        ..q.status
     };
     Sequencer {
-        phase: phase,
-        ticks: q.ticks,
         noted: false,
-        selid: q.selid,
-        status: status,
-        latches: latches,
+        status,
+        ..q
     }
 }
 
@@ -228,7 +188,6 @@ pub fn freed_in(m: &mut Image, free: bool)
     ensures { m.new ≡ freed_stored free m.old }
 {
     if free {
-        let v = sequencer_byte(freed(sequencer(m)));
-        m[SEQUENCER] = v;
+        m[SEQUENCER] = sequencer_byte(freed(sequencer(m)));
     }
 }

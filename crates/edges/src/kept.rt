@@ -1,41 +1,26 @@
 // R-2 at a REQ that rises: the parity of an inbound byte is kept, and a new error is latched where it is enabled.
 ghost use Rattle.std.specs.Prelude.{◌≡◌, true, ◌&&◌};
-ghost use Rattle.rules.specs.Seen.{io_seen, connected};
 ghost use Rattle.image.specs.Image.{image_of, state_at};
 ghost use Rattle.edges.specs.ParityKept.{kept_from};
 ghost use Rattle.edges.specs.Stored.{latches_stored};
 ghost use Rattle.edges.specs.From.{req_rises_from};
-ghost use Rattle.edges.specs.Tests.{inbound_even, inbound_bad};
+ghost use Rattle.edges.specs.Tests.{inbound_bad};
 
-use crate::found::req_rises;
-use image::bits::{enscsiperr, enspchk, parity_driven_by_others};
-use image::bus::{connected, io_seen};
+use crate::found::{inbound, is_bad, req_rises};
+use image::bits::{enscsiperr, enspchk};
 use image::bytes::{latches_byte, latches_of};
-use image::layout::{Image, KEPT_PARITY, LATCHES, LINES_DATA};
-use parity::is_even;
-
-// "connected ... with IO seen"
-fn inbound(m: &Image) -> bool
-    ensures { result ≡ (connected (state_at m.now) && io_seen (state_at m.now)) }
-{
-    if io_seen(m) { connected(m) } else { false }
-}
-
-// The byte that others drive with its parity has an even number of ones.
-fn is_bad(m: &Image) -> bool
-    ensures { result ≡ inbound_even (state_at m.now) }
-{
-    is_even(m[LINES_DATA], parity_driven_by_others(m))
-}
+use image::layout::{Image, KEPT_PARITY, LATCHES};
+use rules::chip::Latches;
 
 // The latch of SCSIPERR, even if it is set.
 fn latched_in(m: &mut Image)
     ensures { m.new ≡ latches_stored true m.old }
 {
-    let mut k = latches_of(m[LATCHES]);
-    k.scsiperr = true;
-    let v = latches_byte(k);
-    m[LATCHES] = v;
+    let k = latches_of(m[LATCHES]);
+    m[LATCHES] = latches_byte(Latches {
+        scsiperr: true,
+        ..k
+    });
 }
 
 // Whether there is an error is told, so that it is judged once.

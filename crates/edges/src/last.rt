@@ -7,12 +7,13 @@ pub struct Before {
     pub mismatched: bool,
 }
 
-// The bytes that it is read off: 340h, 343h, RST, the lines in the order of 343h, and the sequencer's phase.
-#[derive(Clone, Copy)]
+// The bytes that it is read off: the lines in the order of 343h, 343h, RST, 340h, and the sequencer's phase. The lines come first,
+// since they are compared first: in a line event it is they that changed.
+#[derive(Clone, Copy, PartialEq, Eq)]
 pub struct Seen {
-    pub seq: u8,
+    pub control: u8,
     pub sig: u8,
     pub upper: u8,
-    pub control: u8,
+    pub seq: u8,
     pub sequencer: u8,
 }

@@ -51,12 +51,12 @@ fn edges_of(m: &Image, was: Before, ticks: u32) -> Edges
         rstrises: reset,
         reqrises: rises,
         paritybad: bad,
-        beyond: beyond,
+        beyond,
         within: req & !beyond,
         stored: req & !beyond & io_seen(m),
-        late: late,
+        late,
         free: (8 <= quiet) & !(8 <= m[QUIET]),
-        quiet: quiet,
+        quiet,
     }
 }
 
@@ -68,24 +68,19 @@ fn applied_in(m: &mut Image, g: Edges, was: Before)
 {
     let byte = after::byte_seen(m, g.stored);
     after::path_in(m, g, byte);
-    after::registers_in(m, g.rstrises, g.paritybad, g.free);
+    after::registers_in(m, g);
     let seen = mismatched(m);
     after::status_in(m, g, seen & !was.mismatched);
     m[QUIET] = g.quiet;
     after::freed_in(m, g.free);
 }
 
-// The rare edges: all are found, then applied. Only here is what was seen put together, so that the frequent way stores none of it.
-fn all_in(m: &mut Image, rst: bool, req: bool, mismatched: bool, ticks: u32) -> bool
+// The rare edges: all are found, then applied.
+fn all_in(m: &mut Image, was: Before, ticks: u32) -> bool
     requires { IsImage m.old }
-    ensures value { result ≡ (edges_from rst req (state_at m.old) ticks).beyond }
-    ensures m_after { m.new ≡ image_of (applied_from (edges_from rst req (state_at m.old) ticks) mismatched (state_at m.old)) }
+    ensures value { result ≡ (edges_from was.rst was.req (state_at m.old) ticks).beyond }
+    ensures m_after { m.new ≡ image_of (applied_from (edges_from was.rst was.req (state_at m.old) ticks) was.mismatched (state_at m.old)) }
 {
-    let was = Before {
-        rst: rst,
-        req: req,
-        mismatched: mismatched,
-    };
     let g = edges_of(m, was, ticks);
     applied_in(m, g, was);
     g.beyond
@@ -99,15 +94,10 @@ fn edges_in(m: &mut Image, was: Before, bad: bool, ticks: u32) -> bool
     ensures value { result ≡ (edges_from was.rst was.req (state_at m.old) ticks).beyond }
     ensures m_after { m.new ≡ image_of (applied_from (edges_from was.rst was.req (state_at m.old) ticks) was.mismatched (state_at m.old)) }
 {
-    if found::rst_rises(m, was.rst) {
-        return all_in(m, was.rst, was.req, was.mismatched, ticks);
-    }
     let quiet = found::quiet_after(m, false, ticks);
-    if (8 <= quiet) & !(8 <= m[QUIET]) {
-        return all_in(m, was.rst, was.req, was.mismatched, ticks);
-    }
-    if bad {
-        return all_in(m, was.rst, was.req, was.mismatched, ticks);
+    let free = (8 <= quiet) & !(8 <= m[QUIET]);
+    if found::rst_rises(m, was.rst) | free | bad {
+        return all_in(m, was, ticks);
     }
     m[QUIET] = quiet;
     single::phase_in(m, was.mismatched);

@@ -16,15 +16,16 @@ pub fn seen_in(m: &Image) -> Seen
     ensures { result ≡ seen_of m.now }
 {
     Seen {
-        seq: m[SCSISEQ],
+        control: m[LINES_CONTROL],
         sig: m[SCSISIG],
         upper: m[LINES_UPPER],
-        control: m[LINES_CONTROL],
+        seq: m[SCSISEQ],
         sequencer: m[SEQUENCER],
     }
 }
 
 // What the bytes say, read as from an array with nothing else in it.
+#[tactic(auto, unfolding(crate::specs::Since::rst_of, crate::specs::Since::req_of, crate::specs::Since::mismatched_of))]
 fn before_of(x: Seen) -> Before
     ensures rst_value { result.rst ≡ rst_of x }
     ensures req_value { result.req ≡ req_of x }
@@ -39,18 +40,11 @@ fn before_of(x: Seen) -> Before
     last_seen(&a)
 }
 
-// The lines come first: in a line event it is they that changed.
+// Is what is seen as it was? A name for the question with which B begins.
 pub fn is_same(m: &Image, x: Seen) -> bool
     ensures { result ≡ (eqb (get_or m.now control_place 0) x.control && eqb (get_or m.now scsisig_place 0) x.sig && eqb (get_or m.now upper_place 0) x.upper && eqb (get_or m.now scsiseq_place 0) x.seq && eqb (get_or m.now sequencer_place 0) x.sequencer) }
 {
-    if m[LINES_CONTROL] == x.control {
-        (m[SCSISIG] == x.sig)
-            & (m[LINES_UPPER] == x.upper)
-            & (m[SCSISEQ] == x.seq)
-            & (m[SEQUENCER] == x.sequencer)
-    } else {
-        false
-    }
+    seen_in(m) == x
 }
 
 // The five steps where what is seen is as it was and no tick came: BSY or SEL seen stops the quiet ticks, and nothing else changes.
@@ -69,8 +63,10 @@ pub fn edges_before(m: &mut Image, x: Seen, ticks: u32) -> bool
     ensures value { result ≡ beyond_since x (state_at m.old) }
     ensures m_after { m.new ≡ image_of (first_four (last_of x) ticks (state_at m.old)) }
 {
-    let mut was = before_of(x);
-    was.mismatched = true;
+    let was = Before {
+        mismatched: true,
+        ..before_of(x)
+    };
     let bad = kept_in(m, was.req);
     edges_in(m, was, bad, ticks)
 }
@@ -80,6 +76,5 @@ pub fn phase_since(m: &mut Image, x: Seen)
     requires { m.old ≡ image_of (state_at m.old) }
     ensures { m.new ≡ image_of (after_phase_changes (last_of x) (state_at m.old)) }
 {
-    let was = before_of(x);
-    phase_in(m, was.mismatched);
+    phase_in(m, before_of(x).mismatched);
 }

@@ -13,17 +13,19 @@ use datapath::scsi::byte_stored;
 use image::bus::{io_seen, mismatched, req_seen, rst_seen};
 use image::bytes::{status_byte, status_of};
 use image::layout::{ACK, Image, LINES_DATA, OFFSET, SCSI_COUNT, STATUS};
+use rules::chip::Status;
 
 // PHASECHG, REQINIT and SYNCERR set, the rest of the status as it was.
 fn raised_in(m: &mut Image, phase: bool, req: bool, late: bool)
     ensures { m.new ≡ status_stored (raised_b phase req late) m.old }
 {
-    let mut t = status_of(m[STATUS]);
-    t.phasechg = phase | t.phasechg;
-    t.reqinit = req | t.reqinit;
-    t.syncerr = late | t.syncerr;
-    let v = status_byte(t);
-    m[STATUS] = v;
+    let t = status_of(m[STATUS]);
+    m[STATUS] = status_byte(Status {
+        phasechg: phase | t.phasechg,
+        reqinit: req | t.reqinit,
+        syncerr: late | t.syncerr,
+        ..t
+    });
 }
 
 // "PHASECHG is set when "connected and not matched" is true here and was false"
@@ -31,10 +33,7 @@ pub fn phase_in(m: &mut Image, was: bool)
     requires { m.old ≡ image_of (state_at m.old) }
     ensures { m.new ≡ image_of (phase_b was (state_at m.old)) }
 {
-    if was {
-        return;
-    }
-    if mismatched(m) {
+    if !was && mismatched(m) {
         raised_in(m, true, false, false);
     }
 }
@@ -49,6 +48,7 @@ fn inbound_in(m: &mut Image)
         return;
     }
     let late = (m[OFFSET] == 0) & (0 < m[SCSI_COUNT]);
+    // read before the array is lent
     let byte = m[LINES_DATA];
     byte_stored(m, byte);
     if late {
@@ -68,9 +68,8 @@ fn risen(m: &mut Image) -> bool
     if beyond_limit(m, true) {
         return true;
     }
-    let offset = m[OFFSET];
     inbound_in(m);
-    m[OFFSET] = offset + 1;
+    m[OFFSET] += 1;
     false
 }
 

@@ -2,14 +2,18 @@
 use Prim.Native.Nat.{ℕ}
 use mathlib.Core.Path.{◌≡◌, refl}
 use mathlib.Core.Bool.{Bool, true, false, not, ◌&&◌, false≢true}
-use lib.Dec.{ltb}
+use native.Mathlib.Omega.{arith}
+use lib.Dec.{eqb, ltb}
 use Rattle.rules.specs.StepD.{status_d}
 use Rattle.rules.specs.declared.chip.Status.{Status}
 
+none : (n : ℕ) → eqb n 0 ≡ not (ltb 0 n)
+none n = grind arith
+
 -- no ACK, or REQINIT is not set, by the bits that the code read
-pub no_ack : (acks : ℕ) (t : Status) {k seen : Bool} → k ≡ seen → not (ltb 0 acks) && not k ≡ true → t ≡ status_d acks seen t
+pub no_ack : (acks : ℕ) (t : Status) {k seen : Bool} → k ≡ seen → eqb acks 0 && not k ≡ true → t ≡ status_d acks seen t
 unfolding status_d
-no_ack acks t e h = rw (← e, h)
+no_ack acks t e h = rw (← none acks, ← e, h)
 
 unset : (b c : Bool) → not c ≡ true → c ≡ b && c
 unset b true h = absurd (false≢true h)
@@ -33,6 +37,6 @@ without_reqinit t =
       fwerr = t.fwerr;
     }
 
-pub falls : (acks : ℕ) (t : Status) {k seen : Bool} → k ≡ seen → not (ltb 0 acks) && not k ≡ false → without_reqinit t ≡ status_d acks seen t
+pub falls : (acks : ℕ) (t : Status) {k seen : Bool} → k ≡ seen → eqb acks 0 && not k ≡ false → without_reqinit t ≡ status_d acks seen t
 unfolding status_d
-falls acks t e h = rw (← e, h)
+falls acks t e h = rw (← none acks, ← e, h)

@@ -1,20 +1,40 @@
 // The latch byte.
-ghost use Rattle.std.specs.Prelude.{◌≡◌, false};
+ghost use Rattle.std.specs.Prelude.{◌≡◌, false, get_or};
 ghost use Rattle.rules.specs.Interrupts.{latched};
 ghost use Rattle.rules.specs.Registers.{simode0_of, simode1_of};
 ghost use Rattle.rules.specs.StepA.{latches_a};
 ghost use Rattle.rules.specs.declared.records.Event.TheVariants.{Write};
 ghost use Rattle.rules.specs.Changed.{with_latches};
 ghost use Rattle.image.specs.Image.{IsImage, image_of, state_at, status_of, latches_of};
+ghost use Rattle.image.specs.Layout.{simode0_place, simode1_place};
 ghost use Rattle.interrupts.specs.Latching.{latches_from, any_enable};
 
 use image::bytes::{latches_byte, latches_of, status_of};
 use image::layout::{Image, LATCHES, SIMODE0, SIMODE1};
-use registers::bytes::{simode0_of, simode1_of};
+use registers::bytes::Stored;
 use rules::chip::{Latches, Status};
 use rules::map::Register;
 use rules::registers::{Simode0, Simode1};
 
+// 350h and 351h, whose bits enable the interrupts, as they stand in an image.
+#[derive(Clone, Copy, PartialEq, Eq)]
+pub struct Enables {
+    pub simode0: u8,
+    pub simode1: u8,
+}
+
+pub fn enables_in(m: &Image) -> Enables
+    ensures simode0_value { result.simode0 ≡ get_or m.now simode0_place 0 }
+    ensures simode1_value { result.simode1 ≡ get_or m.now simode1_place 0 }
+{
+    Enables {
+        simode0: m[SIMODE0],
+        simode1: m[SIMODE1],
+    }
+}
+
+// Callers compute k first: an element is read before the array is lent.
+#[tactic(auto, using(crate::proofs::StatusAndLatchBytes::latches_placed))]
 fn latches_put(m: &mut Image, k: Latches)
     requires { IsImage m.old }
     ensures { m.new ≡ image_of (with_latches k (state_at m.old)) }
@@ -23,6 +43,7 @@ fn latches_put(m: &mut Image, k: Latches)
 }
 
 // "A write to 34Ch clears the named status bits and latches"; "34Bh clears latches only".
+#[tactic(auto, unfolding(rules::specs::StepA::latches_a, rules::specs::StepA::clears, rules::specs::StepA::clears_latch, rules::specs::Events::writes, rules::specs::Events::value_of))]
 fn latches_written(k: Latches, offset: u8, value: u8) -> Latches
     ensures { result ≡ latches_a k (Write offset value) }
 {
@@ -54,30 +75,26 @@ fn sets(enable: bool, before: bool, status: bool, raised: bool) -> bool
     enable & ((raised & !status) | (status & !before))
 }
 
-// Is the interrupt of any latch enabled? The bytes are those of 350h and 351h.
-fn any_enable(enables0: u8, enables1: u8) -> bool
-    ensures { result ≡ any_enable (simode0_of enables0) (simode1_of enables1) }
+// Is the interrupt of any latch enabled?
+fn any_enable(now: Enables) -> bool
+    ensures { result ≡ any_enable (simode0_of now.simode0) (simode1_of now.simode1) }
 {
-    ((enables0 >> 1) % 2 == 1)
-        | ((enables1 >> 5) % 2 == 1)
-        | ((enables1 >> 3) % 2 == 1)
-        | ((enables1 >> 2) % 2 == 1)
-        | ((enables1 >> 1) % 2 == 1)
-        | ((enables1 >> 0) % 2 == 1)
+    ((now.simode0 >> 1) % 2 == 1)
+        | ((now.simode1 >> 5) % 2 == 1)
+        | ((now.simode1 >> 3) % 2 == 1)
+        | ((now.simode1 >> 2) % 2 == 1)
+        | ((now.simode1 >> 1) % 2 == 1)
+        | ((now.simode1 >> 0) % 2 == 1)
 }
 
 // SPIORDY is enabled in 350h, the others in 351h; what is set stays.
-fn latches_from(
-    b0: Simode0,
-    b1: Simode1,
-    r0: Simode0,
-    r1: Simode1,
-    t: Status,
-    raised: Status,
-    k: Latches,
-) -> Latches
-    ensures { result ≡ latches_from b0 b1 r0 r1 t raised k }
+fn latches_from(before: Enables, now: Enables, t: Status, raised: Status, k: Latches) -> Latches
+    ensures { result ≡ latches_from (simode0_of before.simode0) (simode1_of before.simode1) (simode0_of now.simode0) (simode1_of now.simode1) t raised k }
 {
+    let b0 = Simode0::from_byte(before.simode0);
+    let b1 = Simode1::from_byte(before.simode1);
+    let r0 = Simode0::from_byte(now.simode0);
+    let r1 = Simode1::from_byte(now.simode1);
     Latches {
         spiordy: k.spiordy | sets(r0.enspiordy, b0.enspiordy, t.spiordy, raised.spiordy),
         scsirsti: k.scsirsti | sets(r1.enscsirst, b1.enscsirst, t.scsirsti, raised.scsirsti),
@@ -88,43 +105,25 @@ fn latches_from(
     }
 }
 
-// The same from the bytes of all that is looked at.
-fn latches_of_bytes(
-    before0: u8,
-    before1: u8,
-    enables0: u8,
-    enables1: u8,
-    status: u8,
-    raised: u8,
-    latches: u8,
-) -> Latches
-    ensures { result ≡ latches_from (simode0_of before0) (simode1_of before1) (simode0_of enables0) (simode1_of enables1) (status_of status) (status_of raised) (latches_of latches) }
-{
-    let b0 = simode0_of(before0);
-    let b1 = simode1_of(before1);
-    let r0 = simode0_of(enables0);
-    let r1 = simode1_of(enables1);
-    let s = status_of(status);
-    let r = status_of(raised);
-    latches_from(b0, b1, r0, r1, s, r, latches_of(latches))
-}
-
-// The latches after D: before0 and before1 are 350h and 351h before the event, status the status byte after A, raised what
-// it rose to. None is set where nothing rose, or where no interrupt is enabled.
-pub fn latched_in(m: &mut Image, before0: u8, before1: u8, status: u8, raised: u8)
+// The latches after D: before holds the enables before the event, status is the status byte after A, raised what it rose to.
+// None is set where nothing rose, or where no interrupt is enabled.
+pub fn latched_in(m: &mut Image, before: Enables, status: u8, raised: u8)
     requires { IsImage m.old }
-    ensures { m.new ≡ image_of (with_latches (latches_from (simode0_of before0) (simode1_of before1) (state_at m.old).registers.simode0 (state_at m.old).registers.simode1 (status_of status) (status_of raised) (state_at m.old).latches) (state_at m.old)) }
+    ensures { m.new ≡ image_of (with_latches (latches_from (simode0_of before.simode0) (simode1_of before.simode1) (state_at m.old).registers.simode0 (state_at m.old).registers.simode1 (status_of status) (status_of raised) (state_at m.old).latches) (state_at m.old)) }
 {
-    let enables0 = m[SIMODE0];
-    let enables1 = m[SIMODE1];
-    if (enables0 == before0) & (enables1 == before1) & (status == raised) {
+    let now = enables_in(m);
+    if (now == before) & (status == raised) {
         return;
     }
-    if !any_enable(enables0, enables1) {
+    if !any_enable(now) {
         return;
     }
-    let k = latches_of_bytes(
-        before0, before1, enables0, enables1, status, raised, m[LATCHES],
+    let k = latches_from(
+        before,
+        now,
+        status_of(status),
+        status_of(raised),
+        latches_of(m[LATCHES]),
     );
     latches_put(m, k);
 }

@@ -14,6 +14,8 @@ use image::layout::{Image, STATUS};
 use rules::chip::Status;
 use rules::map::Register;
 
+// Callers compute t first: an element is read before the array is lent.
+#[tactic(auto, using(crate::proofs::StatusAndLatchBytes::status_placed))]
 fn status_put(m: &mut Image, t: Status)
     requires { IsImage m.old }
     ensures { m.new ≡ image_of (with_status t (state_at m.old)) }
@@ -25,14 +27,11 @@ fn status_put(m: &mut Image, t: Status)
 fn error_written(enspchk: bool, kept: bool, error: bool, cleared: bool) -> bool
     ensures { result ≡ (enspchk && cond cleared kept error) }
 {
-    if cleared {
-        enspchk & kept
-    } else {
-        enspchk & error
-    }
+    enspchk && if cleared { kept } else { error }
 }
 
 // "A write to 34Ch clears the named status bits and latches"; "34Fh clears errors."
+#[tactic(auto, unfolding(rules::specs::StepA::error_a, rules::specs::StepA::status_a, rules::specs::StepA::clears, rules::specs::StepA::clears_error, rules::specs::Events::writes, rules::specs::Events::value_of))]
 fn status_written(enspchk: bool, kept: bool, t: Status, offset: u8, value: u8) -> Status
     ensures { result ≡ status_a false false enspchk kept t (Write offset value) }
 {
@@ -40,7 +39,6 @@ fn status_written(enspchk: bool, kept: bool, t: Status, offset: u8, value: u8) -
     let errors = offset == map::offset_of(Register::CLRSERR);
     let error = error_written(enspchk, kept, t.scsiperr, clears & ((value >> 2) % 2 == 1));
     Status {
-        spiordy: t.spiordy,
         scsirsti: !(clears & ((value >> 5) % 2 == 1)) & t.scsirsti,
         busfree: !(clears & ((value >> 3) % 2 == 1)) & t.busfree,
         scsiperr: error,
@@ -48,18 +46,21 @@ fn status_written(enspchk: bool, kept: bool, t: Status, offset: u8, value: u8) -
         reqinit: !(clears & ((value >> 0) % 2 == 1)) & t.reqinit,
         syncerr: !(errors & ((value >> 2) % 2 == 1)) & t.syncerr,
         fwerr: !(errors & ((value >> 1) % 2 == 1)) & t.fwerr,
+        ..t
     }
 }
 
 // Where no register is written, as at a word read; the kept parity is not asked then.
+#[tactic(auto, unfolding(rules::specs::StepA::error_a, rules::specs::StepA::status_a, rules::specs::StepA::clears, rules::specs::StepA::clears_error, rules::specs::Events::writes))]
 fn status_kept(accessed: bool, acked: bool, enspchk: bool, t: Status) -> Status
     ensures { result ≡ status_a accessed acked enspchk false t WordRead }
 {
-    let mut n = t;
-    n.spiordy = !accessed & t.spiordy;
-    n.scsiperr = enspchk & t.scsiperr;
-    n.reqinit = !acked & t.reqinit;
-    n
+    Status {
+        spiordy: !accessed & t.spiordy,
+        scsiperr: enspchk & t.scsiperr,
+        reqinit: !acked & t.reqinit,
+        ..t
+    }
 }
 
 // "While ENSPCHK is 0, SCSIPERR is held at 0": at every event. Most change nothing.
@@ -68,8 +69,7 @@ pub fn status_kept_in(m: &mut Image, accessed: bool, acked: bool)
     ensures { m.new ≡ image_of (with_status (status_a accessed acked (state_at m.old).registers.sxfrctl1.enspchk (state_at m.old).keptbad (state_at m.old).status WordRead) (state_at m.old)) }
 {
     let enspchk = enspchk(m);
-    let scsiperr = scsiperr(m);
-    if !accessed & !acked & (enspchk | !scsiperr) {
+    if !accessed & !acked & (enspchk | !scsiperr(m)) {
         return;
     }
     let t = status_kept(accessed, acked, enspchk, status_of(m[STATUS]));
@@ -81,9 +81,7 @@ pub fn status_written_in(m: &mut Image, offset: u8, value: u8)
     requires { IsImage m.old }
     ensures { m.new ≡ image_of (with_status (status_a false false (state_at m.old).registers.sxfrctl1.enspchk (state_at m.old).keptbad (state_at m.old).status (Write offset value)) (state_at m.old)) }
 {
-    let enspchk = enspchk(m);
-    let kept = kept_bad(m);
-    let t = status_written(enspchk, kept, status_of(m[STATUS]), offset, value);
+    let t = status_written(enspchk(m), kept_bad(m), status_of(m[STATUS]), offset, value);
     status_put(m, t);
 }
 
@@ -95,42 +93,37 @@ pub fn fallen_in(m: &mut Image, acks: u8)
     if !reqinit(m) {
         return;
     }
-    let seen = ack_seen(m);
-    if !(0 < acks) & !seen {
+    if (acks == 0) & !ack_seen(m) {
         return;
     }
-    let mut t = status_of(m[STATUS]);
-    t.reqinit = false;
+    let t = Status {
+        reqinit: false,
+        ..status_of(m[STATUS])
+    };
     status_put(m, t);
 }
 
 // "Normal mode with DMAEN, SCSIEN and no path sets FWERR."
+#[tactic(auto, unfolding(rules::specs::StepD::fifo_conflict, image::specs::Image::state_at))]
 pub fn fifo_conflict(m: &Image) -> bool
     ensures { result ≡ fifo_conflict (registers_at m.now) }
 {
-    if normal(m) {
-        if scsien(m) { !path(m) } else { false }
-    } else {
-        false
-    }
+    normal(m) && scsien(m) && !path(m)
 }
 
 // "Automatic mode, matched, REQ seen, automatic ACK off sets SPIORDY."
+#[tactic(auto, unfolding(rules::specs::StepD::pio_ready, image::specs::Image::state_at))]
 pub fn pio_ready(m: &Image) -> bool
     ensures { result ≡ pio_ready (state_at m.now) }
 {
-    if automatic(m) {
-        matched(m) & req_seen(m) & !automatic_ack(m)
-    } else {
-        false
-    }
+    automatic(m) && matched(m) && req_seen(m) && !automatic_ack(m)
 }
 
 // SPIORDY is set, and in Automatic mode FWERR does not rise: nothing is left to rise.
 fn is_raised(m: &Image) -> bool
     ensures { result ≡ ((state_at m.now).status.spiordy && automatic (registers_at m.now)) }
 {
-    if spiordy(m) { automatic(m) } else { false }
+    spiordy(m) && automatic(m)
 }
 
 // What each status rose to in the event: SPIORDY in Automatic mode, or FWERR in Normal mode.
@@ -142,14 +135,18 @@ pub fn raised_in(m: &mut Image)
         return;
     }
     if pio_ready(m) {
-        let mut t = status_of(m[STATUS]);
-        t.spiordy = true;
+        let t = Status {
+            spiordy: true,
+            ..status_of(m[STATUS])
+        };
         status_put(m, t);
         return;
     }
     if fifo_conflict(m) {
-        let mut t = status_of(m[STATUS]);
-        t.fwerr = true;
+        let t = Status {
+            fwerr: true,
+            ..status_of(m[STATUS])
+        };
         status_put(m, t);
     }
 }

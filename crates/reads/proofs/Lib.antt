@@ -1,4 +1,3 @@
 pub mod AnswerParts
-pub mod Gates
 pub mod LatchByte
 pub mod Unread

@@ -18,14 +18,17 @@ use rules::records::Answer;
 use wire::answer_bytes;
 
 // "Where the sequencer gives data, that is what is driven, whatever the mode"
+#[tactic(auto, unfolding(crate::specs::Answering::byte_given, image::specs::Image::state_at))]
 fn byte_given(m: &Image) -> u8
     ensures { result ≡ byte_given (state_at m.now) }
 {
     let p = phase(m);
     if drives_data(p) {
         phase_data(p, m[SCSIID])
+    } else if normal(m) {
+        m[LAST]
     } else {
-        if normal(m) { m[LAST] } else { m[SCSIDAT] }
+        m[SCSIDAT]
     }
 }
 
@@ -40,7 +43,7 @@ fn is_driving(m: &Image) -> bool
     }
 }
 
-// "Undriven data and parity are 0.": whether data is driven is judged once, by the caller.
+// "Undriven data and parity are 0.": whether data is driven is judged once, by the caller; image::bus::data_driven would judge it again.
 fn byte_driven(m: &Image, driving: bool) -> u8
     ensures { result ≡ cond driving (byte_given (state_at m.now)) 0 }
 {
@@ -51,10 +54,11 @@ fn byte_driven(m: &Image, driving: bool) -> u8
 fn parity_of(driving: bool, driven: u8) -> bool
     ensures { result ≡ driving && even (ones driven) }
 {
-    if driving { parity_for(driven) } else { false }
+    driving && parity_for(driven)
 }
 
 // The control lines driven, in the order of 343h, with the SEL and BSY that are given: CD, IO, MSG and REQ never are.
+// The bits are named first, so that the byte stands on one line.
 fn control_with(m: &Image, select: bool, busy: bool) -> u8
     ensures { result ≡ byte_of false false false (state_at m.now).registers.scsisig.atno ((state_at m.now).registers.scsisig.selo || select) ((state_at m.now).registers.scsisig.bsyo || busy) false (ack_driven (state_at m.now)) }
 {
@@ -73,38 +77,32 @@ fn control_driven(m: &Image) -> u8
         control_with(m, false, false)
     } else {
         let p = phase(m);
-        let sel = drives_sel(p);
-        let bsy = drives_bsy(p);
-        control_with(m, sel, bsy)
+        control_with(m, drives_sel(p), drives_bsy(p))
     }
 }
 
-// The sixteen bytes of the answer after an event, with what settling reports and the bytes sent.
+// The sixteen bytes of the answer after an event, with what settling reports and the bytes sent, one by one: the struct that holds
+// them, event::stepping::Outcome, stands above this crate.
 pub fn answer_of(m: &Image, code: Code, value: u16, moves: u8, acks: u8, sent: [u8; 8]) -> [u8; 16]
     requires { IsImage m.now }
     ensures { result ≡ answer_bytes (answer_with (state_at m.now) code value moves acks sent) }
 {
-    let irq = irq(m);
     let driving = is_driving(m);
     let driven = byte_driven(m, driving);
-    let parity = parity_of(driving, driven);
-    let control = control_driven(m);
-    let rst = scsirsto(m);
-    let a = Answer {
-        code: code,
-        irq: irq,
-        acks: acks,
-        moves: moves,
-        driving: driving,
-        rst: rst,
-        parity: parity,
-        value: value,
-        control: control,
-        driven: driven,
+    answer_bytes(Answer {
+        code,
+        irq: irq(m),
+        acks,
+        moves,
+        driving,
+        rst: scsirsto(m),
+        parity: parity_of(driving, driven),
+        value,
+        control: control_driven(m),
+        driven,
         offset: m[OFFSET],
         scsi: m[SCSI_COUNT],
         host: m[HOST_COUNT],
-        sent: sent,
-    };
-    answer_bytes(a)
+        sent,
+    })
 }

@@ -1,4 +1,6 @@
-// R-1: the statuses of selection and reselection, read off an image.
+// R-1: the statuses of selection and reselection, read off an image: one bit each, a function for each by its name in the data book.
+#![tactic(auto, unfolding(image::specs::Image::state_at))]
+
 ghost use Rattle.std.specs.Prelude.{◌≡◌};
 ghost use Rattle.image.specs.Image.{state_at};
 

@@ -1,4 +1,5 @@
-// The status registers, the stack byte and the ID byte, read off an image.
+// The status registers, the stack byte and the ID byte, read off an image. The bits of a register are named first, so that its byte
+// stands on one line as the data book draws it.
 ghost use Rattle.std.specs.Prelude.{◌≡◌, ◌<◌, get_or};
 ghost use Rattle.rules.specs.Seen.{atn_seen};
 ghost use Rattle.rules.specs.Reads.{scsisigi, sstat0, sstat1, sstat2, sstat3, sstat4, dmastat, id_bytes};
@@ -18,6 +19,7 @@ use laws::byte_of;
 use stack::place_of;
 
 // ATN is driven by others or by the chip.
+#[tactic(auto, unfolding(rules::specs::Seen::atn_seen, image::specs::Image::state_at))]
 fn atn_seen(m: &Image) -> bool
     ensures { result ≡ atn_seen (state_at m.now) }
 {
@@ -25,6 +27,7 @@ fn atn_seen(m: &Image) -> bool
 }
 
 // 343h: the lines seen.
+#[tactic(auto, unfolding(rules::specs::Reads::scsisigi))]
 pub fn scsisigi(m: &Image) -> u8
     ensures { result ≡ scsisigi (state_at m.now) }
 {
@@ -40,6 +43,7 @@ pub fn scsisigi(m: &Image) -> u8
 }
 
 // 34Bh
+#[tactic(auto, unfolding(rules::specs::Reads::sstat0))]
 pub fn sstat0(m: &Image) -> u8
     ensures { result ≡ sstat0 (state_at m.now) }
 {
@@ -51,6 +55,7 @@ pub fn sstat0(m: &Image) -> u8
 }
 
 // 34Ch: ATNTARG, bit 6, is not ruled and reads 0.
+#[tactic(auto, unfolding(rules::specs::Reads::sstat1))]
 pub fn sstat1(m: &Image) -> u8
     ensures { result ≡ sstat1 (state_at m.now) }
 {
@@ -72,12 +77,11 @@ pub fn sstat2(m: &Image) -> u8
     requires { IsImage m.now }
     ensures { result ≡ sstat2 (state_at m.now) }
 {
-    let offset = m[OFFSET];
     let count = m[SCSI_COUNT];
     byte_of(
         false,
         false,
-        !(offset == 0),
+        m[OFFSET] != 0,
         count == 0,
         count == 8,
         false,
@@ -95,6 +99,7 @@ pub fn sstat3(m: &Image) -> u8
 }
 
 // 34Fh
+#[tactic(auto, unfolding(rules::specs::Reads::sstat4))]
 pub fn sstat4(m: &Image) -> u8
     ensures { result ≡ sstat4 (state_at m.now) }
 {
@@ -108,13 +113,11 @@ pub fn dmastat(m: &Image) -> u8
     requires { IsImage m.now }
     ensures { result ≡ dmastat (state_at m.now) }
 {
-    let instat = instat(m);
     let count = m[HOST_COUNT];
-    let write = write(m);
     byte_of(
         false,
-        !write & (2 <= count),
-        instat,
+        !write(m) & (2 <= count),
+        instat(m),
         count == 128,
         count == 0,
         64 <= count,
@@ -124,32 +127,33 @@ pub fn dmastat(m: &Image) -> u8
 }
 
 // The place that 35Dh uses.
+#[tactic(auto, unfolding(rules::specs::Stack::stack_place, image::specs::Image::state_at))]
 fn stack_place(m: &Image) -> u8
     ensures { result ≡ stack_place (state_at m.now).registers.dmacntrl1.enstk32 (state_at m.now).stack }
 {
-    let enstk32 = enstk32(m);
-    place_of(enstk32, m[POINTER])
+    place_of(enstk32(m), m[POINTER])
 }
 
 // 35Dh
 pub fn stack_byte(m: &Image) -> u8
     ensures { result ≡ stack_byte (state_at m.now).registers.dmacntrl1.enstk32 (state_at m.now).stack }
 {
-    let at = stack_place(m) as usize;
+    let at = usize::from(stack_place(m));
     m[STACK_BYTES + at]
 }
 
 const ID_BYTES: [u8; 32] = *b"(C)1991ADAPTECAIC6360           ";
 
 // 35Fh: the ID byte at a place.
+#[tactic(auto, unfolding(rules::specs::Reads::id_bytes))]
 fn id_at(place: u8) -> u8
     requires { place < 32 }
     ensures { result ≡ get_or id_bytes place 0 }
 {
-    let at = place as usize;
-    ID_BYTES[at]
+    ID_BYTES[usize::from(place)]
 }
 
+#[tactic(auto, using(image::proofs::AtPlaces::at_identity), unfolding(image::specs::Image::state_at))]
 pub fn id_byte(m: &Image) -> u8
     requires { IsImage m.now }
     ensures { result ≡ get_or id_bytes (state_at m.now).identity 0 }

@@ -15,6 +15,7 @@ use image::layout::{
 use rules::map::Register;
 
 // 353h: the two bits and the pointer stand apart.
+#[tactic(auto, using(image::proofs::AtPlaces::parts_fit, image::proofs::AtPlaces::parts_join))]
 fn dmacntrl1(m: &Image) -> u8
     requires { IsImage m.now }
     ensures { result ≡ dmacntrl1_byte (state_at m.now).registers.dmacntrl1 (state_at m.now).stack.pointer }
@@ -23,6 +24,7 @@ fn dmacntrl1(m: &Image) -> u8
 }
 
 // A register that can be read, by its name; those that cannot give 0.
+#[tactic(auto, unfolding(rules::specs::Reads::read_of))]
 pub fn read_register(m: &Image, register: Register) -> u8
     requires { IsImage m.now }
     ensures { result ≡ read_of (state_at m.now) register }
@@ -58,17 +60,10 @@ pub fn read_register(m: &Image, register: Register) -> u8
     }
 }
 
-// "A word's low byte comes first."
-fn word(low: u8, high: u8) -> u16
-    ensures { result ≡ low + 256 * high }
-{
-    (low as u16) + 256 * (high as u16)
-}
-
-// The two oldest bytes of the host FIFO, 0 for each that is missing.
+// The two oldest bytes of the host FIFO, 0 for each that is missing. "A word's low byte comes first."
 pub fn oldest_word(m: &Image) -> u16
     requires { IsImage m.now }
     ensures { result ≡ get_or (state_at m.now).transfer.host 0 0 + 256 * get_or (state_at m.now).transfer.host 1 0 }
 {
-    word(m[HOST_BYTES], m[HOST_BYTES + 1])
+    u16::from_le_bytes([m[HOST_BYTES], m[HOST_BYTES + 1]])
 }

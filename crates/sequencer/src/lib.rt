@@ -6,10 +6,10 @@ ghost use Rattle.edges.specs.Since.{beyond_since};
 ghost use Rattle.image.specs.Image.{image_of, state_at, IsImage};
 ghost use Rattle.sequencer.specs.Since.{dormant, as_asked, still, resting, bus_since};
 
-use crate::called::sel_of_others;
 use crate::placed::sequenced_unless;
 use edges::last::Seen;
 use edges::since::{edges_before, is_same, phase_since, still_in};
+use image::bits::sel_of_others;
 use image::bus::rst_seen;
 use image::layout::{Image, QUIET, SCSISEQ, SEQUENCER};
 
@@ -41,25 +41,14 @@ fn is_as_asked(m: &Image) -> bool
 fn is_still(m: &Image) -> bool
     ensures { result ≡ still m.now }
 {
-    if is_as_asked(m) {
-        if sel_of_others(m) {
-            false
-        } else {
-            !rst_seen(m)
-        }
-    } else {
-        false
-    }
+    is_as_asked(m) && !sel_of_others(m) && !rst_seen(m)
 }
 
 // Has the sequencer nothing to do in this event?
 fn is_resting(m: &Image, ticks: u32) -> bool
     ensures { result ≡ resting m.now ticks }
 {
-    if is_dormant(m) {
-        return true;
-    }
-    if ticks == 0 { is_still(m) } else { false }
+    is_dormant(m) || (ticks == 0 && is_still(m))
 }
 
 // The quiet ticks that stood before the event are those after A, which leaves them.

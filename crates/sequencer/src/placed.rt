@@ -11,25 +11,29 @@ use crate::resolved::sequenced;
 use image::bytes::scsisig_byte;
 use image::layout::{Image, QUIET, SCSISEQ, SCSISIG};
 use image::sequencer::sequencer_put;
-use registers::bytes::{scsiseq_byte, scsiseq_of, scsisig_of};
+use registers::bytes::{Stored, scsisig_of};
 use rules::chip::Sequenced;
+use rules::registers::{Scsiseq, Scsisig};
 
 // "ENSELO becomes 0"
 fn with_enselo(v: u8, enselo: bool) -> u8
     ensures { result ≡ scsiseq_byte (scsiseq_with enselo (scsiseq_of v)) }
 {
-    let mut q = scsiseq_of(v);
-    q.enselo = enselo;
-    scsiseq_byte(q)
+    let q = Scsiseq {
+        enselo,
+        ..Scsiseq::from_byte(v)
+    };
+    q.to_byte()
 }
 
 // "343h bit 4 is set"
 fn with_atn(v: u8, atno: bool) -> u8
     ensures { result ≡ scsisig_byte (with_atn atno (scsisig_of false v)) }
 {
-    let mut g = scsisig_of(false, v);
-    g.atno = atno;
-    scsisig_byte(g)
+    scsisig_byte(Scsisig {
+        atno,
+        ..scsisig_of(false, v)
+    })
 }
 
 fn sequenced_put(m: &mut Image, x: Sequenced)
@@ -39,8 +43,7 @@ fn sequenced_put(m: &mut Image, x: Sequenced)
 {
     let v = with_enselo(m[SCSISEQ], x.enselo);
     let w = with_atn(m[SCSISIG], x.atno);
-    let q = x.sequencer;
-    sequencer_put(m, q);
+    sequencer_put(m, x.sequencer);
     m[SCSISEQ] = v;
     m[SCSISIG] = w;
     m[QUIET] = x.quiet;

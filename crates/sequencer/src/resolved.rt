@@ -1,4 +1,6 @@
 // "In every event, ticks or not, in this order"; and RST before it.
+#![tactic(auto, using(rules::proofs::Phases::same_phase), unfolding(image::specs::Image::state_at, rules::specs::Sequencer::sequenced_of, rules::specs::Sequencer::silenced, rules::specs::Sequencer::connects, rules::specs::Sequencer::selected, rules::specs::Sequencer::resolved, rules::specs::Sequencer::sequenced))]
+
 ghost use Rattle.std.specs.Prelude.{◌≡◌, cond, ◌<◌};
 ghost use Rattle.rules.specs.Counter.{counter_size};
 ghost use Rattle.rules.specs.Sequencer.{sequenced_of, silenced, tick_in, uncalled, let_go, forestalled, connects, selected, begun, withdrawn, answers, resolved, sequenced, entered, in_phase};
@@ -6,24 +8,17 @@ ghost use Rattle.rules.specs.Seen.{is_phase};
 ghost use Rattle.rules.specs.declared.chip.Phase.TheVariants.{Idle};
 ghost use Rattle.image.specs.Image.{state_at};
 
-use crate::called::{asked, bsy_of_others, called, is_phase, sel_of_others};
-use crate::changes::{entered, in_phase, sequenced_with};
+use crate::called::{asked, called};
+use crate::changes::{entered, in_phase};
 use crate::raised::{seldo_raised, selingo_cleared};
 use crate::ticking::tick_in;
-use image::bits::atno;
+use image::bits::{atno, bsy_of_others, sel_of_others};
 use image::bus::rst_seen;
 use image::layout::{Image, QUIET, SCSISEQ};
 use image::sequencer::sequencer;
-use registers::bytes::scsiseq_of;
+use registers::bytes::Stored;
 use rules::chip::{Phase, Sequenced, Sequencer};
-
-// The phase of what the sequencer may change.
-fn phase_in(x: Sequenced) -> Phase
-    ensures { result ≡ x.sequencer.phase }
-{
-    let q = x.sequencer;
-    q.phase
-}
+use rules::registers::Scsiseq;
 
 // A change of phase, where a test holds.
 fn entered_if(test: bool, p: Phase, x: Sequenced) -> Sequenced
@@ -36,7 +31,7 @@ fn entered_if(test: bool, p: Phase, x: Sequenced) -> Sequenced
 fn uncalled(m: &Image, x: Sequenced) -> Sequenced
     ensures { result ≡ uncalled (state_at m.now) x }
 {
-    let test = is_phase(Phase::Answering, phase_in(x)) & !called(m);
+    let test = (x.sequencer.phase == Phase::Answering) & !called(m);
     entered_if(test, Phase::Idle, x)
 }
 
@@ -44,7 +39,7 @@ fn uncalled(m: &Image, x: Sequenced) -> Sequenced
 fn let_go(m: &Image, x: Sequenced) -> Sequenced
     ensures { result ≡ let_go (state_at m.now) x }
 {
-    let test = is_phase(Phase::Answered, phase_in(x)) & !sel_of_others(m);
+    let test = (x.sequencer.phase == Phase::Answered) & !sel_of_others(m);
     entered_if(test, Phase::Idle, x)
 }
 
@@ -52,7 +47,7 @@ fn let_go(m: &Image, x: Sequenced) -> Sequenced
 fn forestalled(m: &Image, x: Sequenced) -> Sequenced
     ensures { result ≡ forestalled (state_at m.now) x }
 {
-    let test = is_phase(Phase::Arbitrating, phase_in(x)) & sel_of_others(m);
+    let test = (x.sequencer.phase == Phase::Arbitrating) & sel_of_others(m);
     entered_if(test, Phase::Waiting, x)
 }
 
@@ -60,20 +55,19 @@ fn forestalled(m: &Image, x: Sequenced) -> Sequenced
 fn connects(m: &Image, x: Sequenced) -> Sequenced
     ensures { result ≡ connects (state_at m.now) x }
 {
-    let q = x.sequencer;
-    let n = seldo_raised(m, in_phase(Phase::Idle, q));
-    let mut r = x;
-    r.sequencer = n;
-    r.enselo = false;
-    r
+    Sequenced {
+        sequencer: seldo_raised(m, in_phase(Phase::Idle, x.sequencer)),
+        enselo: false,
+        ..x
+    }
 }
 
 // "selecting or holding, and others drive BSY"
 fn selected(m: &Image, x: Sequenced) -> Sequenced
     ensures { result ≡ selected (state_at m.now) x }
 {
-    let p = phase_in(x);
-    let test = (is_phase(Phase::Selecting, p) | is_phase(Phase::Holding, p)) & bsy_of_others(m);
+    let p = x.sequencer.phase;
+    let test = ((p == Phase::Selecting) | (p == Phase::Holding)) & bsy_of_others(m);
     if test { connects(m, x) } else { x }
 }
 
@@ -81,7 +75,7 @@ fn selected(m: &Image, x: Sequenced) -> Sequenced
 fn begun(m: &Image, x: Sequenced) -> Sequenced
     ensures { result ≡ begun (state_at m.now) x }
 {
-    let test = is_phase(Phase::Idle, phase_in(x)) & asked(m, x.enselo);
+    let test = (x.sequencer.phase == Phase::Idle) & asked(m, x.enselo);
     entered_if(test, Phase::Waiting, x)
 }
 
@@ -89,7 +83,7 @@ fn begun(m: &Image, x: Sequenced) -> Sequenced
 fn withdrawn(m: &Image, x: Sequenced) -> Sequenced
     ensures { result ≡ withdrawn (state_at m.now) x }
 {
-    let test = is_phase(Phase::Waiting, phase_in(x)) & !asked(m, x.enselo) & !(8 <= x.quiet);
+    let test = (x.sequencer.phase == Phase::Waiting) & !asked(m, x.enselo) & !(8 <= x.quiet);
     entered_if(test, Phase::Idle, x)
 }
 
@@ -97,29 +91,28 @@ fn withdrawn(m: &Image, x: Sequenced) -> Sequenced
 fn answers(m: &Image, x: Sequenced) -> Sequenced
     ensures { result ≡ answers (state_at m.now) x }
 {
-    let p = phase_in(x);
-    let test = (is_phase(Phase::Idle, p) | is_phase(Phase::Waiting, p)) & called(m);
+    let p = x.sequencer.phase;
+    let test = ((p == Phase::Idle) | (p == Phase::Waiting)) & called(m);
     entered_if(test, Phase::Answering, x)
 }
 
 fn resolved(m: &Image, x: Sequenced) -> Sequenced
     ensures { result ≡ resolved (state_at m.now) x }
 {
-    let a = uncalled(m, x);
-    let b = let_go(m, a);
-    let d = forestalled(m, b);
-    let e = selected(m, d);
-    let f = begun(m, e);
-    let g = withdrawn(m, f);
-    answers(m, g)
+    let x = uncalled(m, x);
+    let x = let_go(m, x);
+    let x = forestalled(m, x);
+    let x = selected(m, x);
+    let x = begun(m, x);
+    let x = withdrawn(m, x);
+    answers(m, x)
 }
 
 // Idle, where it is not.
 fn idled(q: Sequencer) -> Sequencer
     ensures { result ≡ cond (is_phase Idle q.phase) q (in_phase Idle q) }
 {
-    let p = q.phase;
-    if is_phase(Phase::Idle, p) {
+    if q.phase == Phase::Idle {
         q
     } else {
         in_phase(Phase::Idle, q)
@@ -130,19 +123,19 @@ fn idled(q: Sequencer) -> Sequencer
 fn silenced(x: Sequenced) -> Sequenced
     ensures { result ≡ silenced x }
 {
-    let q = x.sequencer;
-    sequenced_with(selingo_cleared(idled(q)), x)
+    Sequenced {
+        sequencer: selingo_cleared(idled(x.sequencer)),
+        ..x
+    }
 }
 
 // What it may change, as it stands.
 pub fn sequenced_of(m: &Image) -> Sequenced
     ensures { result ≡ sequenced_of (state_at m.now) }
 {
-    let q = sequencer(m);
-    let control = scsiseq_of(m[SCSISEQ]);
     Sequenced {
-        sequencer: q,
-        enselo: control.enselo,
+        sequencer: sequencer(m),
+        enselo: Scsiseq::from_byte(m[SCSISEQ]).enselo,
         atno: atno(m),
         quiet: m[QUIET],
     }
@@ -155,6 +148,7 @@ fn ticked(m: &Image, tick: bool, before: u8, x: Sequenced) -> Sequenced
     if tick { tick_in(m, before, x) } else { x }
 }
 
+// The bound on the ticks stands in no ghost field: `Sequencer` is public, and its callers may put any number there.
 pub fn sequenced(m: &Image, tick: bool, before: u8) -> Sequenced
     requires { (state_at m.now).sequencer.ticks < counter_size }
     ensures { result ≡ sequenced tick before (state_at m.now) }

@@ -1,5 +1,7 @@
 // Ticks that change nothing but the counts, many at a time: how far the next change is, and what the ticks before it leave.
-ghost use Rattle.std.specs.Prelude.{◌≡◌, cond, eqb, leb, ◌+◌, ◌-◌, ◌<◌, min};
+#![tactic(auto, unfolding(image::specs::Image::state_at, rules::specs::StepB::quiet_after, rules::specs::Ticks::bus_waits, rules::specs::Ticks::bus_free_distance, rules::specs::Ticks::distance, rules::specs::Ticks::distance_in, rules::specs::Ticks::ticks_in))]
+
+ghost use Rattle.std.specs.Prelude.{◌≡◌, cond, eqb, ◌<◌};
 ghost use Rattle.rules.specs.Counter.{counter_size};
 ghost use Rattle.rules.specs.Rest.{AtRest};
 ghost use Rattle.rules.specs.StepB.{quiet_after};
@@ -7,14 +9,14 @@ ghost use Rattle.rules.specs.Ticks.{bus_taken, bus_waits, ticks_in, advanced, un
 ghost use Rattle.image.specs.Image.{image_of, state_at, IsImage};
 
 use crate::called::timeout;
-use crate::changes::in_ticks;
-use image::bus::{bsy_seen, sel_seen};
+use image::bus::{bsy_seen, quiet_added, sel_seen};
 use image::layout::{Image, QUIET, SXFRCTL1};
 use image::sequencer::{phase, sequencer, sequencer_put};
-use registers::bytes::sxfrctl1_of;
-use rules::chip::Phase;
+use registers::bytes::Stored;
+use rules::chip::{Phase, Sequencer};
+use rules::registers::Sxfrctl1;
 
-// More ticks than an event has.
+// More ticks than an event has; no Option, since `distance` of specs/Ticks.antt says this number.
 const UNREACHED: u32 = 16777216;
 
 // BSY or SEL is seen.
@@ -34,16 +36,14 @@ fn bus_waits(m: &Image) -> bool
 fn ticks_spent(m: &Image) -> u32
     ensures { result ≡ (state_at m.now).sequencer.ticks }
 {
-    let q = sequencer(m);
-    q.ticks
+    sequencer(m).ticks
 }
 
 // ENSTIMER
 fn timer_runs(m: &Image) -> bool
     ensures { result ≡ (state_at m.now).registers.sxfrctl1.enstimer }
 {
-    let control = sxfrctl1_of(m[SXFRCTL1]);
-    control.enstimer
+    Sxfrctl1::from_byte(m[SXFRCTL1]).enstimer
 }
 
 // One of two numbers, by a test.
@@ -57,27 +57,18 @@ fn picked(test: bool, first: u32, second: u32) -> u32
 fn delay_left(delay: u32, passed: u32) -> u32
     ensures { result ≡ delay_left delay passed }
 {
-    if passed < delay { delay - passed } else { 1 }
+    delay.saturating_sub(passed).max(1)
 }
 
 // "On reaching 8": once, so that quiet ticks that stand at 8 reach it no more.
-fn quiet_left(quiet: u8) -> u32
-    ensures { result ≡ cond (leb 8 quiet) unreached (8 - quiet) }
-{
-    if 8 <= quiet {
-        UNREACHED
-    } else {
-        (8 - quiet) as u32
-    }
-}
-
 fn bus_free_distance(m: &Image) -> u32
     ensures { result ≡ bus_free_distance (state_at m.now) }
 {
-    if bus_taken(m) {
+    let quiet = m[QUIET];
+    if bus_taken(m) | (8 <= quiet) {
         UNREACHED
     } else {
-        quiet_left(m[QUIET])
+        u32::from(8 - quiet)
     }
 }
 
@@ -89,14 +80,12 @@ pub fn distance(m: &Image) -> u32
     let n = ticks_spent(m);
     let free = bus_free_distance(m);
     match p {
-        Phase::Idle => free,
+        Phase::Idle | Phase::Holding | Phase::Answered => free,
         Phase::Waiting => picked(bus_waits(m), delay_left(16, n), free),
         Phase::Arbitrating => delay_left(48, n),
         Phase::Clearing => delay_left(24, n),
         Phase::Selecting => picked(timer_runs(m), delay_left(timeout(m), n), UNREACHED),
-        Phase::Holding => free,
         Phase::Answering => delay_left(8, n),
-        Phase::Answered => free,
     }
 }
 
@@ -110,14 +99,10 @@ fn ticks_in(m: &Image, k: u32) -> u32
     let n = ticks_spent(m);
     let more = n + k;
     match p {
-        Phase::Idle => n,
+        Phase::Idle | Phase::Holding | Phase::Answered => n,
         Phase::Waiting => picked(bus_waits(m), more, 0),
-        Phase::Arbitrating => more,
-        Phase::Clearing => more,
+        Phase::Arbitrating | Phase::Clearing | Phase::Answering => more,
         Phase::Selecting => picked(timer_runs(m), more, 0),
-        Phase::Holding => n,
-        Phase::Answering => more,
-        Phase::Answered => n,
     }
 }
 
@@ -134,19 +119,15 @@ fn ticks_after(m: &Image, k: u32) -> u32
     }
 }
 
-// "ticks add, stopping at 8"
-fn added(quiet: u8, ticks: u32) -> u8
-    ensures { result ≡ min 8 (quiet + ticks) }
-{
-    let sum = (quiet as u64) + (ticks as u64);
-    if sum < 8 { sum as u8 } else { 8 }
-}
-
 // "Quiet ticks: 0 if BSY or SEL is seen"
 fn quiet_after(m: &Image, k: u32) -> u8
     ensures { result ≡ quiet_after k (state_at m.now) }
 {
-    if bus_taken(m) { 0 } else { added(m[QUIET], k) }
+    if bus_taken(m) {
+        0
+    } else {
+        quiet_added(m[QUIET], k)
+    }
 }
 
 // Ticks below the distance, in place: the quiet ticks and the ticks in the phase.
@@ -158,7 +139,7 @@ pub fn advanced_in(m: &mut Image, k: u32)
 {
     let quiet = quiet_after(m, k);
     let ticks = ticks_after(m, k);
-    let q = in_ticks(ticks, sequencer(m));
-    sequencer_put(m, q);
+    let q = sequencer(m);
+    sequencer_put(m, Sequencer { ticks, ..q });
     m[QUIET] = quiet;
 }

@@ -1,4 +1,6 @@
 // "If the event is a tick, by phase"; n is the number of ticks spent in the phase once this one is counted.
+#![tactic(auto, unfolding(image::specs::Image::state_at, rules::specs::Sequencer::arbitrates, rules::specs::Sequencer::waiting_for, rules::specs::Sequencer::arbitrating_for, rules::specs::Sequencer::selects, rules::specs::Sequencer::clearing_for, rules::specs::Sequencer::times_out, rules::specs::Sequencer::selecting_for, rules::specs::Sequencer::reselected, rules::specs::Sequencer::answering_for, rules::specs::Sequencer::tick_in))]
+
 ghost use Rattle.std.specs.Prelude.{◌≡◌, cond, ◌+◌, ◌<◌};
 ghost use Rattle.rules.specs.Counter.{counter_size};
 ghost use Rattle.rules.specs.Sequencer.{arbitrates, waiting_for, arbitrating_for, selects, clearing_for, times_out, selecting_for, reselected, answering_for, tick_in};
@@ -10,19 +12,19 @@ use crate::changes::{entered, in_phase, waited};
 use crate::raised::{seldi_raised, selingo_cleared, selingo_raised, selto_raised};
 use image::bus::{bsy_seen, sel_seen};
 use image::layout::{Image, LINES_DATA, SCSISEQ, SIMODE1, SXFRCTL1};
-use registers::bytes::{scsiseq_of, simode1_of, sxfrctl1_of};
+use registers::bytes::Stored;
 use rules::chip::{Phase, Sequenced};
+use rules::registers::{Scsiseq, Simode1, Sxfrctl1};
 
 // "arbitrating, SELINGO 0, quiet ticks 0"
 fn arbitrates(x: Sequenced) -> Sequenced
     ensures { result ≡ arbitrates x }
 {
-    let q = x.sequencer;
-    let n = selingo_cleared(in_phase(Phase::Arbitrating, q));
-    let mut r = x;
-    r.sequencer = n;
-    r.quiet = 0;
-    r
+    Sequenced {
+        sequencer: selingo_cleared(in_phase(Phase::Arbitrating, x.sequencer)),
+        quiet: 0,
+        ..x
+    }
 }
 
 fn waiting_for(n: u32, x: Sequenced) -> Sequenced
@@ -46,8 +48,7 @@ fn arbitrating_for(m: &Image, n: u32, x: Sequenced) -> Sequenced
     ensures { result ≡ arbitrating_for (state_at m.now) n x }
 {
     if 48 <= n {
-        let p = arbitrated(higher_id(m));
-        entered(p, x)
+        entered(arbitrated(higher_id(m)), x)
     } else {
         waited(n, x)
     }
@@ -57,13 +58,11 @@ fn arbitrating_for(m: &Image, n: u32, x: Sequenced) -> Sequenced
 fn selects(m: &Image, x: Sequenced) -> Sequenced
     ensures { result ≡ selects (state_at m.now) x }
 {
-    let q = x.sequencer;
-    let n = selingo_raised(m, in_phase(Phase::Selecting, q));
-    let control = scsiseq_of(m[SCSISEQ]);
-    let mut r = x;
-    r.sequencer = n;
-    r.atno = control.enautoatno | x.atno;
-    r
+    Sequenced {
+        sequencer: selingo_raised(m, in_phase(Phase::Selecting, x.sequencer)),
+        atno: Scsiseq::from_byte(m[SCSISEQ]).enautoatno | x.atno,
+        ..x
+    }
 }
 
 fn clearing_for(m: &Image, n: u32, x: Sequenced) -> Sequenced
@@ -83,14 +82,12 @@ fn timed_out(enabled: bool) -> Phase
 fn times_out(m: &Image, x: Sequenced) -> Sequenced
     ensures { result ≡ times_out (state_at m.now) x }
 {
-    let enables = simode1_of(m[SIMODE1]);
-    let p = timed_out(enables.enseltimo);
-    let q = x.sequencer;
-    let n = selto_raised(m, in_phase(p, q));
-    let mut r = x;
-    r.sequencer = n;
-    r.enselo = false;
-    r
+    let p = timed_out(Simode1::from_byte(m[SIMODE1]).enseltimo);
+    Sequenced {
+        sequencer: selto_raised(m, in_phase(p, x.sequencer)),
+        enselo: false,
+        ..x
+    }
 }
 
 fn selecting_for(m: &Image, n: u32, x: Sequenced) -> Sequenced
@@ -107,13 +104,11 @@ fn selecting_for(m: &Image, n: u32, x: Sequenced) -> Sequenced
 fn reselected(m: &Image, x: Sequenced) -> Sequenced
     ensures { result ≡ reselected (state_at m.now) x }
 {
-    let q = x.sequencer;
-    let n = seldi_raised(m, m[LINES_DATA], in_phase(Phase::Answered, q));
-    let control = scsiseq_of(m[SCSISEQ]);
-    let mut r = x;
-    r.sequencer = n;
-    r.atno = control.enautoatni | x.atno;
-    r
+    Sequenced {
+        sequencer: seldi_raised(m, m[LINES_DATA], in_phase(Phase::Answered, x.sequencer)),
+        atno: Scsiseq::from_byte(m[SCSISEQ]).enautoatni | x.atno,
+        ..x
+    }
 }
 
 fn answering_for(m: &Image, n: u32, x: Sequenced) -> Sequenced
@@ -138,20 +133,17 @@ pub fn tick_in(m: &Image, before: u8, x: Sequenced) -> Sequenced
     requires { x.sequencer.ticks < counter_size }
     ensures { result ≡ tick_in x.sequencer.phase before (state_at m.now) x }
 {
-    let q = x.sequencer;
-    let p = q.phase;
-    let timer = sxfrctl1_of(m[SXFRCTL1]);
-    match p {
-        Phase::Idle => x,
+    let ticks = x.sequencer.ticks;
+    let timer = Sxfrctl1::from_byte(m[SXFRCTL1]);
+    match x.sequencer.phase {
+        Phase::Idle | Phase::Holding | Phase::Answered => x,
         Phase::Waiting => {
             let quiet = (8 <= before) & !(bsy_seen(m) | sel_seen(m));
-            waiting_for(more(quiet, q.ticks), x)
+            waiting_for(more(quiet, ticks), x)
         }
-        Phase::Arbitrating => arbitrating_for(m, q.ticks + 1, x),
-        Phase::Clearing => clearing_for(m, q.ticks + 1, x),
-        Phase::Selecting => selecting_for(m, more(timer.enstimer, q.ticks), x),
-        Phase::Holding => x,
-        Phase::Answering => answering_for(m, q.ticks + 1, x),
-        Phase::Answered => x,
+        Phase::Arbitrating => arbitrating_for(m, ticks + 1, x),
+        Phase::Clearing => clearing_for(m, ticks + 1, x),
+        Phase::Selecting => selecting_for(m, more(timer.enstimer, ticks), x),
+        Phase::Answering => answering_for(m, ticks + 1, x),
     }
 }

@@ -13,7 +13,7 @@ use Rattle.rules.specs.declared.chip.Conditions.{Conditions}
 use Rattle.rules.proofs.Ranges.{SettlingBytes, fits_settle, bytes_settle}
 use Rattle.rules.proofs.Rest.{measure, move_lowers, handshake_lowers, turn_moves, turn_handshakes}
 use Rattle.laws.proofs.Lists.{padded_take}
-use Rattle.fifos.specs.declared.sent.Sent.{Sent}
+use Rattle.rules.specs.declared.chip.Fifo.{Fifo}
 use Rattle.fifos.specs.Fifos.{sent_view, sent_of, SentTidy}
 use Rattle.fifos.proofs.Laws.{sent_count}
 use Rattle.settling.specs.Blocks.{start_of, movable, carried, moved_by, passed, acknowledged}
@@ -57,21 +57,21 @@ module _ (c : Conditions) (byte : c.byte < 256) where
       (p.0, p.1.transfer)
 
 -- settling as the array and the numbers show it
-abbrev pub shown : List ℕ → ℕ → ℕ → Sent → Settling
+abbrev pub shown : List ℕ → ℕ → ℕ → Fifo 8 → Settling
 shown m a k v = record { transfer = (state_at m).transfer; moves = a; acks = k; sent = sent_view v }
 
 same_shown : {t t' : Transfer} {a a' k k' : ℕ} {l l' : List ℕ} → t ≡ t' → a ≡ a' → k ≡ k' → l ≡ l' → ◌≡◌ {A = Settling} (record { transfer = t; moves = a; acks = k; sent = l }) (record { transfer = t'; moves = a'; acks = k'; sent = l' })
 same_shown e f g h = cc
 
 -- from the array x, of which only the data path changed
-pub record Between (c : Conditions) (x m : List ℕ) (a k : ℕ) (v : Sent) : Type 0 where
+pub record Between (c : Conditions) (x m : List ℕ) (a k : ℕ) (v : Fifo 8) : Type 0 where
   pub image : IsImage m
   pub rest : state_at m ≡ with_transfer (state_at m).transfer (state_at x)
   pub tidy : SentTidy v
   pub under : Underway c (state_at x).transfer (shown m a k v)
 
 -- and no move is possible
-pub record Going (c : Conditions) (x m : List ℕ) (a k : ℕ) (v : Sent) : Type 0 where
+pub record Going (c : Conditions) (x m : List ℕ) (a k : ℕ) (v : Fifo 8) : Type 0 where
   pub between : Between c x m a k v
   pub still : can_move c (state_at m).transfer ≡ false
 
@@ -80,7 +80,7 @@ rest_of x m m' t r e =
     let f : (state_at m').transfer ≡ t = ap (λ (y : State). y.transfer) e in
     e ∙ ap (with_transfer t) r ∙ ap (λ (y : Transfer). with_transfer y (state_at x)) (sym f)
 
-pub started : (c : Conditions) (m : List ℕ) (v : Sent) → IsImage m → v ≡ sent_of [] → Between c m m 0 0 v
+pub started : (c : Conditions) (m : List ℕ) (v : Fifo 8) → IsImage m → v ≡ sent_of [] → Between c m m 0 0 v
 unfolding start_of
 started c m v i e =
     let f = i.range.transfer in
@@ -92,7 +92,7 @@ started c m v i e =
       under = subst (Underway c (state_at m).transfer) (same_shown refl refl refl (sym w)) (begins c (state_at m).transfer f.host f.scsi f.counter f.offset);
     }
 
-module _ (c : Conditions) (byte : c.byte < 256) (x m : List ℕ) (a k : ℕ) (v : Sent) where
+module _ (c : Conditions) (byte : c.byte < 256) (x m : List ℕ) (a k : ℕ) (v : Fifo 8) where
   pub moved_on : (m' : List ℕ) (r : ℕ) → Between c x m a k v → Moves m c m' r → Going c x m' (a + r) k v × (measure c (state_at m').transfer ≤ measure c (state_at m).transfer)
   unfolding moved_by
   moved_on m' r b w =
@@ -116,7 +116,7 @@ module _ (c : Conditions) (byte : c.byte < 256) (x m : List ℕ) (a k : ℕ) (v 
         subst (λ (z : Transfer). measure c z ≤ measure c t) (sym f) g,
       )
 
-  pub shaken_on : (m' : List ℕ) (v' : Sent) → Going c x m a k v → can_handshake c (state_at m).transfer ≡ true → v' ≡ sent_with c (state_at m).transfer v → m' ≡ image_of (with_transfer (shaken_of c (state_at m).transfer) (state_at m)) → Between c x m' a (k + 1) v' × (suc (measure c (state_at m').transfer) ≤ measure c (state_at m).transfer)
+  pub shaken_on : (m' : List ℕ) (v' : Fifo 8) → Going c x m a k v → can_handshake c (state_at m).transfer ≡ true → v' ≡ sent_with c (state_at m).transfer v → m' ≡ image_of (with_transfer (shaken_of c (state_at m).transfer) (state_at m)) → Between c x m' a (k + 1) v' × (suc (measure c (state_at m').transfer) ≤ measure c (state_at m).transfer)
   shaken_on m' v' q h d e =
       let t : Transfer = (state_at m).transfer in
       let b = q.between in
@@ -136,7 +136,7 @@ module _ (c : Conditions) (byte : c.byte < 256) (x m : List ℕ) (a k : ℕ) (v 
         subst (λ (z : Settling). suc (measure c z.transfer) ≤ measure c t) i (handshake_lowers c (shown m a k v) h),
       )
 
-module _ (c : Conditions) (x m : List ℕ) (a k : ℕ) (v : Sent) (g : Going c x m a k v) where
+module _ (c : Conditions) (x m : List ℕ) (a k : ℕ) (v : Fifo 8) (g : Going c x m a k v) where
   -- what the numbers can hold
   pub moves_fit : a ≤ 16
   moves_fit = (reports c (state_at x).transfer (shown m a k v) g.between.under).moves
@@ -160,5 +160,5 @@ module _ (c : Conditions) (x m : List ℕ) (a k : ℕ) (v : Sent) (g : Going c x
       }
 
 -- where the loop begins: after the first run of moves
-pub begun : (c : Conditions) → c.byte < 256 → (m m' : List ℕ) (r : ℕ) (v : Sent) → IsImage m → v ≡ sent_of [] → Moves m c m' r → Going c m m' r 0 v
+pub begun : (c : Conditions) → c.byte < 256 → (m m' : List ℕ) (r : ℕ) (v : Fifo 8) → IsImage m → v ≡ sent_of [] → Moves m c m' r → Going c m m' r 0 v
 begun c byte m m' r v i e w = subst (λ (n : ℕ). Going c m m' n 0 v) (zero-add r) (moved_on c byte m m 0 0 v m' r (started c m v i e) w).0

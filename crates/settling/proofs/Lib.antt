@@ -6,5 +6,4 @@ pub mod ReadBackOfTransfer
 pub mod Looked
 pub mod Runs
 pub mod ShakeParts
-pub mod Tests
 pub mod Underway

@@ -3,7 +3,7 @@ use Rattle.std.specs.Prelude.{ℕ, ◌≡◌, cond, List, ◌++◌, take}
 use Rattle.rules.specs.State.{Transfer}
 use Rattle.rules.specs.StepC.{stored_by}
 use Rattle.rules.specs.declared.chip.Conditions.{Conditions}
-use Rattle.fifos.specs.declared.sent.Sent.{Sent}
+use Rattle.rules.specs.declared.chip.Fifo.{Fifo}
 use Rattle.fifos.specs.Fifos.{sent_view, sent_of}
 use Rattle.settling.specs.Blocks.{movable, carried, passed, acknowledged}
 use Rattle.rules.specs.Changed.{with_transfer}
@@ -15,7 +15,7 @@ pub record Moves (m : List ℕ) (c : Conditions) (m' : List ℕ) (r : ℕ) : Typ
   pub left : m' ≡ image_of (with_transfer (carried c.outbound (movable c (state_at m).transfer) (state_at m).transfer) (state_at m))
 
 -- the bytes sent, with the oldest of the SCSI FIFO where it goes out
-abbrev pub sent_with : Conditions → Transfer → Sent → Sent
+abbrev pub sent_with : Conditions → Transfer → Fifo 8 → Fifo 8
 sent_with c t v = sent_of (cond c.outbound (sent_view v ++ take 1 t.scsi) (sent_view v))
 
 -- the byte of a handshake, then its ACK

@@ -7,7 +7,7 @@ ghost use Rattle.image.specs.Image.{IsImage, state_at};
 ghost use Rattle.settling.specs.Looks.{looked_at, may_shake};
 ghost use Rattle.settling.specs.Settles.{Settles};
 
-use fifos::sent::Sent;
+use fifos::Sent;
 use image::bits::{automatic_ack, scsien, write};
 use image::bus::{matched, path, req_seen, synchronous};
 use image::layout::{Image, LINES_DATA, OFFSET};
@@ -26,47 +26,37 @@ pub struct Told {
 }
 
 // "Handshake, if SCSIEN, path, matched."
+#[tactic(auto, unfolding(image::specs::Image::state_at, rules::specs::StepC::conditions))]
 fn enabled(m: &Image) -> bool
     ensures { result ≡ (conditions (state_at m.now)).enabled }
 {
-    if path(m) {
-        if scsien(m) { matched(m) } else { false }
-    } else {
-        false
-    }
+    path(m) && scsien(m) && matched(m)
 }
 
 // What settling looks at and does not change; where a byte is stored, the lines alone are seen.
+#[tactic(auto, unfolding(image::specs::Image::state_at, rules::specs::StepC::conditions, crate::specs::Looks::looked_at))]
 pub fn conditions_of(m: &Image) -> Conditions
     ensures { result ≡ looked_at (state_at m.now) }
 {
-    let way = path(m);
-    let able = enabled(m);
-    let out = write(m);
-    let kind = synchronous(m);
-    let asked = req_seen(m);
     Conditions {
-        path: way,
-        enabled: able,
-        outbound: out,
-        synchronous: kind,
-        req: asked,
+        path: path(m),
+        enabled: enabled(m),
+        outbound: write(m),
+        synchronous: synchronous(m),
+        req: req_seen(m),
         byte: m[LINES_DATA],
     }
 }
 
 // Whether a handshake can come at all.
+#[tactic(auto, unfolding(image::specs::Image::state_at, crate::specs::Looks::may_shake))]
 fn possible(m: &Image) -> bool
     ensures { result ≡ may_shake (state_at m.now) }
 {
     if synchronous(m) {
         0 < m[OFFSET]
     } else {
-        if req_seen(m) {
-            !automatic_ack(m)
-        } else {
-            false
-        }
+        req_seen(m) && !automatic_ack(m)
     }
 }
 
@@ -79,18 +69,13 @@ fn shaking(m: &mut Image, c: Conditions, made: u8) -> Told
 {
     let mut moves = made;
     let mut acks = 0u8;
-    let mut sent = fifos::sent::none();
+    let mut sent = fifos::empty();
     while shakes::can_handshake(m, c) {
         sent = shakes::shaken(m, c, sent);
-        acks = acks + 1;
-        let more = moves::moved(m, c);
-        moves = moves + more;
+        acks += 1;
+        moves += moves::moved(m, c);
     }
-    Told {
-        moves: moves,
-        acks: acks,
-        sent: sent,
-    }
+    Told { moves, acks, sent }
 }
 
 // Moves alone, where no handshake can come.
@@ -100,12 +85,10 @@ fn moving(m: &mut Image) -> Told
     ensures { Settles m.old (conditions (state_at m.old)) m.new result }
 {
     let c = conditions_of(m);
-    let moves = moves::moved(m, c);
-    let sent = fifos::sent::none();
     Told {
-        moves: moves,
+        moves: moves::moved(m, c),
         acks: 0,
-        sent: sent,
+        sent: fifos::empty(),
     }
 }
 
@@ -115,11 +98,10 @@ pub fn settle(m: &mut Image) -> Told
     ensures { Settles m.old (conditions (state_at m.old)) m.new result }
 {
     if !path(m) {
-        let sent = fifos::sent::none();
         return Told {
             moves: 0,
             acks: 0,
-            sent: sent,
+            sent: fifos::empty(),
         };
     }
     if !possible(m) {

@@ -1,5 +1,7 @@
 // One handshake: its byte, and its ACK.
-ghost use Rattle.std.specs.Prelude.{◌≡◌, true, [], ◌-◌, ◌<◌, length, get_or};
+#![tactic(auto, using(crate::proofs::Carries::scsi_held, crate::proofs::ReadBackOfTransfer::offset_held), unfolding(rules::specs::StepC::can_synchronous, rules::specs::StepC::can_asynchronous, rules::specs::StepC::can_handshake))]
+
+ghost use Rattle.std.specs.Prelude.{◌≡◌, true, [], ◌<◌, length, get_or};
 ghost use Rattle.rules.specs.StepC.{can_synchronous, can_asynchronous, can_handshake};
 ghost use Rattle.fifos.specs.Fifos.{SentTidy};
 ghost use Rattle.rules.specs.Changed.{with_transfer};
@@ -9,12 +11,13 @@ ghost use Rattle.settling.specs.Steps.{sent_with, byte_passed, shaken_of};
 
 use datapath::counts::{acknowledged, counter_stepped};
 use datapath::scsi::scsi_pushed;
-use fifos::sent::Sent;
+use fifos::Sent;
 use image::bits::automatic_ack;
 use image::layout::{Image, LAST, OFFSET, SCSI_BYTES, SCSI_COUNT};
 use rules::chip::Conditions;
 use rules::counts::Direction;
 
+// Synchronous and asynchronous handshakes ask of other things, and so each has its test.
 fn can_synchronous(m: &Image, c: Conditions) -> bool
     requires { IsImage m.now }
     ensures { result ≡ can_synchronous c (state_at m.now).transfer }
@@ -33,11 +36,10 @@ fn can_asynchronous(m: &Image, c: Conditions) -> bool
     ensures { result ≡ can_asynchronous c (state_at m.now).transfer }
 {
     let held = m[SCSI_COUNT];
-    let on = automatic_ack(m);
     if c.outbound {
-        c.req & !on & (0 < held)
+        c.req & !automatic_ack(m) & (0 < held)
     } else {
-        c.req & !on & (held < 8)
+        c.req & !automatic_ack(m) & (held < 8)
     }
 }
 
@@ -52,7 +54,8 @@ pub fn can_handshake(m: &Image, c: Conditions) -> bool
     }
 }
 
-// The oldest byte of the SCSI FIFO goes to the bus; the places past the count hold 0 and move with the others.
+// The oldest byte of the SCSI FIFO goes to the bus; the places past the count hold 0 and move with the others. One by one:
+// `copy_within` of the seven bytes is compiled to a loop that takes over four times as long.
 fn byte_sent(m: &mut Image) -> u8
     requires image { IsImage m.old }
     requires scsi_nonzero { 0 < length (state_at m.old).transfer.scsi }
@@ -82,8 +85,7 @@ fn byte_passed(m: &mut Image, c: Conditions, sent: Sent) -> Sent
     ensures { (result ≡ sent_with c (state_at m.old).transfer sent) × (m.new ≡ image_of (with_transfer (byte_passed c (state_at m.old).transfer) (state_at m.old))) }
 {
     if c.outbound {
-        let b = byte_sent(m);
-        return fifos::sent::one_more(sent, b);
+        return fifos::one_more(sent, byte_sent(m));
     }
     if c.synchronous {
         return sent;
@@ -99,17 +101,10 @@ fn ack_given(m: &mut Image, synchronous: bool)
 {
     if synchronous {
         let _passed = counter_stepped(m, Direction::Up);
-        let offset = m[OFFSET];
-        m[OFFSET] = less_one(offset);
+        m[OFFSET] = m[OFFSET].saturating_sub(1);
     } else {
         acknowledged(m);
     }
-}
-
-fn less_one(n: u8) -> u8
-    ensures { result ≡ n - 1 }
-{
-    if 0 < n { n - 1 } else { 0 }
 }
 
 // A handshake, with the bytes sent so far.

@@ -19,7 +19,7 @@ use Rattle.rules.specs.declared.records.Event.{Event}
 use Rattle.rules.specs.declared.records.Event.TheVariants.{Write}
 use Rattle.rules.specs.Changed.{with_registers}
 use Rattle.image.specs.Image.{IsImage, image_of, state_at, scsisig_byte, scsirate_byte, scsiid_byte}
-use Rattle.image.proofs.EightBits.{bit_4}
+use Rattle.laws.proofs.EightBits.{bit_4}
 use Rattle.image.proofs.ReadBack.{scsisig_back}
 use Rattle.image.proofs.AtPlaces.{of_image}
 use Rattle.image.specs.Layout.{brstcntrl_place, dmacntrl0_place, dmacntrl1_place, scsidat_place, scsiid_place, scsirate_place, scsiseq_place, scsisig_place, simode0_place, simode1_place, sxfrctl0_place, sxfrctl1_place}

@@ -1,4 +1,5 @@
 -- A write that finds none of the storing registers stores nothing, and none of five leaves the sequencer.
+use Rattle.std.specs.Prelude.{Option, Some, None}
 use Prim.Native.Nat.{ℕ}
 use mathlib.Core.Path.{◌≡◌, refl, ap, sym, ◌∙◌}
 use mathlib.Core.Bool.{false, not}
@@ -16,8 +17,6 @@ use Rattle.rules.specs.StepA.{registers_a, clears, clears_latch, gives_up, selec
 use Rattle.rules.specs.declared.registers.Registers.{Registers}
 use Rattle.rules.specs.declared.map.Register.{Register}
 use Rattle.rules.specs.declared.map.Register.TheVariants.{SCSISEQ, SXFRCTL0, SXFRCTL1, SCSISIGO, SCSIRATE, SCSIID, SCSIDAT, CLRSINT0, CLRSINT1, SIMODE0, SIMODE1, DMACNTRL0, DMACNTRL1, BRSTCNTRL}
-use Rattle.rules.specs.declared.map.Mapped.{Mapped}
-use Rattle.rules.specs.declared.map.Mapped.TheVariants.{Present, Missing}
 use Rattle.rules.specs.declared.records.Event.TheVariants.{Write}
 use Rattle.rules.specs.contracts.map.Register as register
 use Rattle.map.proofs.Offsets.{written_offset}
@@ -37,25 +36,25 @@ abbrev pub Outside : List ℕ → Register → Type 0
 Outside ks k = T (not (has_key ks (tag_of register.the_type k)))
 
 -- what is found has one of them
-abbrev pub Far : List ℕ → Mapped → Type 0
-Far ks m = (k : Register) → Outside ks k → m ≡ Present k → ⊥
+abbrev pub Far : List ℕ → Option Register → Type 0
+Far ks m = (k : Register) → Outside ks k → m ≡ Some k → ⊥
 
-pub same_register : (r k : Register) → Present r ≡ Present k → r ≡ k
+pub same_register : (r k : Register) → Some r ≡ Some k → r ≡ k
 same_register r k e = cc
 
-pub nothing_found : (k : Register) → Missing ≡ Present k → ⊥
+pub nothing_found : (k : Register) → None ≡ Some k → ⊥
 nothing_found k e =
     let z : ◌≡◌ {A = ℕ} 0 1 = cc in
     omega arith
 
-pub far_from : (ks : List ℕ) (r : Register) → OneOf ks (tag_of register.the_type r) → Far ks (Present r)
+pub far_from : (ks : List ℕ) (r : Register) → OneOf ks (tag_of register.the_type r) → Far ks (Some r)
 far_from ks r h k t e = other ks r k h t (same_register r k e)
 
 -- what a write finds is found at its own offset
-pub found_written : (o : ℕ) (r : Register) → written_at o ≡ Present r → Written r
+pub found_written : (o : ℕ) (r : Register) → written_at o ≡ Some r → Written r
 found_written o r e = ap written_at (sym (written_offset o r e)) ∙ e
 
-module _ (o v : ℕ) (m : Mapped) (found : written_at o ≡ m) where
+module _ (o v : ℕ) (m : Option Register) (found : written_at o ≡ m) where
   away : (ks : List ℕ) → Far ks m → (k : Register) → Written k → Outside ks k → eqb o (offset_of k) ≡ false
   away ks far k w t = ne_eqb o (offset_of k) (λ (e : o ≡ offset_of k). far k t (sym found ∙ ap written_at e ∙ w))
 

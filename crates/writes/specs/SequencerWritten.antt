@@ -6,7 +6,6 @@ use Rattle.rules.specs.Sequencer.{selection_with}
 use Rattle.rules.specs.State.{State}
 use Rattle.rules.specs.StepA.{registers_a, gives_up, sequencer_a}
 use Rattle.rules.specs.declared.chip.Phase.TheVariants.{Idle, Selecting}
-use Rattle.rules.specs.declared.chip.Selection.{Selection}
 use Rattle.rules.specs.declared.chip.Sequencer.{Sequencer}
 use Rattle.rules.specs.declared.map.Register.{Register}
 use Rattle.rules.specs.declared.map.Register.TheVariants.{SCSISEQ}
@@ -34,8 +33,3 @@ gave_up q =
       status = selection_with t.seldo t.seldi (not (is_phase Selecting q.phase) && t.selingo) t.selto;
       latches = q.latches;
     }
-
--- other statuses and latches of selection, its phase as it was
-abbrev pub with_selections : Bool → Selection → Selection → Sequencer → Sequencer
-with_selections noted t k q =
-    record { phase = q.phase; ticks = q.ticks; noted = noted; selid = q.selid; status = t; latches = k }

@@ -2,50 +2,18 @@
 ghost use Rattle.std.specs.Prelude.{◌≡◌};
 ghost use Rattle.rules.specs.Changed.{with_sequencer};
 ghost use Rattle.rules.specs.Map.{offset_of};
-ghost use Rattle.rules.specs.Seen.{is_phase};
 ghost use Rattle.rules.specs.Sequencer.{latch_enabled};
 ghost use Rattle.rules.specs.StepA.{noted_a};
-ghost use Rattle.rules.specs.declared.chip.Phase.TheVariants.{Selecting, Holding};
 ghost use Rattle.rules.specs.declared.map.Register.TheVariants.{SCSISEQ, CLRSINT0, CLRSINT1, SIMODE0, SIMODE1};
 ghost use Rattle.rules.specs.declared.records.Event.TheVariants.{Write};
 ghost use Rattle.image.specs.Image.{IsImage, image_of, state_at};
-ghost use Rattle.writes.specs.SequencerWritten.{sequencer_written, gives_up_by, gave_up, with_selections};
+ghost use Rattle.writes.specs.SequencerWritten.{sequencer_written, gives_up_by, gave_up};
 ghost use Rattle.writes.specs.WrittenRegister.{Written};
 
 use image::layout::{Image, QUIET, SXFRCTL1};
 use image::sequencer::{phase, sequencer, sequencer_put};
 use rules::chip::{Phase, Selection, Sequencer};
 use rules::map::Register;
-
-fn is_selecting(p: Phase) -> bool
-    ensures { result ≡ is_phase Selecting p }
-{
-    match p {
-        Phase::Idle => false,
-        Phase::Waiting => false,
-        Phase::Arbitrating => false,
-        Phase::Clearing => false,
-        Phase::Selecting => true,
-        Phase::Holding => false,
-        Phase::Answering => false,
-        Phase::Answered => false,
-    }
-}
-
-fn is_holding(p: Phase) -> bool
-    ensures { result ≡ is_phase Holding p }
-{
-    match p {
-        Phase::Idle => false,
-        Phase::Waiting => false,
-        Phase::Arbitrating => false,
-        Phase::Clearing => false,
-        Phase::Selecting => false,
-        Phase::Holding => true,
-        Phase::Answering => false,
-        Phase::Answered => false,
-    }
-}
 
 // "a write to 340h that leaves it not asked, while holding, or while selecting with ENSTIMER 0"
 fn gives_up(m: &Image, value: u8) -> bool
@@ -54,29 +22,22 @@ fn gives_up(m: &Image, value: u8) -> bool
     let p = phase(m);
     let asked = ((value >> 6) % 2 == 1) & !((value >> 7) % 2 == 1);
     let enstimer = (m[SXFRCTL1] >> 2) % 2 == 1;
-    !asked & (is_holding(p) | (is_selecting(p) & !enstimer))
+    !asked & ((p == Phase::Holding) | ((p == Phase::Selecting) & !enstimer))
 }
 
 // "makes the sequencer idle, and SELINGO 0 if it was selecting"
 fn gave_up(q: Sequencer) -> Sequencer
     ensures { result ≡ gave_up q }
 {
-    let p = q.phase;
-    let t = q.status;
-    let latches = q.latches;
-    let status = Selection {
-        seldo: t.seldo,
-        seldi: t.seldi,
-        selingo: !is_selecting(p) & t.selingo,
-        selto: t.selto,
-    };
+    let selingo = (q.phase != Phase::Selecting) & q.status.selingo;
     Sequencer {
         phase: Phase::Idle,
         ticks: 0,
-        noted: q.noted,
-        selid: q.selid,
-        status: status,
-        latches: latches,
+        status: Selection {
+            selingo,
+            ..q.status
+        },
+        ..q
     }
 }
 
@@ -89,20 +50,6 @@ fn control_written(m: &Image, value: u8) -> Sequencer
         return gave_up(q);
     }
     q
-}
-
-fn with_selections(q: Sequencer, noted: bool, status: Selection, latches: Selection) -> Sequencer
-    ensures { result ≡ with_selections noted status latches q }
-{
-    let p = q.phase;
-    Sequencer {
-        phase: p,
-        ticks: q.ticks,
-        noted: noted,
-        selid: q.selid,
-        status: status,
-        latches: latches,
-    }
 }
 
 // A write of 34Bh bit 5 "while SELDI is 1 and the quiet ticks stand at 8 clears SELDI at once; else it notes".
@@ -122,21 +69,20 @@ fn latches_cleared(m: &Image, value: u8) -> Sequencer
 {
     let q = sequencer(m);
     let quiet = m[QUIET];
-    let t = q.status;
-    let k = q.latches;
-    let status = Selection {
-        seldo: t.seldo,
-        seldi: !(((value >> 5) % 2 == 1) & (quiet >= 8)) & t.seldi,
-        selingo: t.selingo,
-        selto: t.selto,
-    };
-    let latches = Selection {
-        seldo: !((value >> 6) % 2 == 1) & k.seldo,
-        seldi: !((value >> 5) % 2 == 1) & k.seldi,
-        selingo: !((value >> 4) % 2 == 1) & k.selingo,
-        selto: k.selto,
-    };
-    with_selections(q, noted(q, quiet, value), status, latches)
+    Sequencer {
+        noted: noted(q, quiet, value),
+        status: Selection {
+            seldi: !(((value >> 5) % 2 == 1) & (quiet >= 8)) & q.status.seldi,
+            ..q.status
+        },
+        latches: Selection {
+            seldo: !((value >> 6) % 2 == 1) & q.latches.seldo,
+            seldi: !((value >> 5) % 2 == 1) & q.latches.seldi,
+            selingo: !((value >> 4) % 2 == 1) & q.latches.selingo,
+            ..q.latches
+        },
+        ..q
+    }
 }
 
 // "34Ch bit 7 clears SELTO, status and latch."
@@ -144,21 +90,17 @@ fn timeout_cleared(m: &Image, value: u8) -> Sequencer
     ensures { result ≡ sequencer_written CLRSINT1 (state_at m.now) value }
 {
     let q = sequencer(m);
-    let t = q.status;
-    let k = q.latches;
-    let status = Selection {
-        seldo: t.seldo,
-        seldi: t.seldi,
-        selingo: t.selingo,
-        selto: !((value >> 7) % 2 == 1) & t.selto,
-    };
-    let latches = Selection {
-        seldo: k.seldo,
-        seldi: k.seldi,
-        selingo: k.selingo,
-        selto: !((value >> 7) % 2 == 1) & k.selto,
-    };
-    with_selections(q, q.noted, status, latches)
+    Sequencer {
+        status: Selection {
+            selto: !((value >> 7) % 2 == 1) & q.status.selto,
+            ..q.status
+        },
+        latches: Selection {
+            selto: !((value >> 7) % 2 == 1) & q.latches.selto,
+            ..q.latches
+        },
+        ..q
+    }
 }
 
 // A latch sets "when the enable rises while status is 1".
@@ -174,30 +116,30 @@ fn selection_enabled(m: &Image, value: u8) -> Sequencer
 {
     let q = sequencer(m);
     let before = m[image::layout::SIMODE0];
-    let t = q.status;
-    let k = q.latches;
-    let latches = Selection {
-        seldo: latch_enabled(
-            (before >> 6) % 2 == 1,
-            (value >> 6) % 2 == 1,
-            t.seldo,
-            k.seldo,
-        ),
-        seldi: latch_enabled(
-            (before >> 5) % 2 == 1,
-            (value >> 5) % 2 == 1,
-            t.seldi,
-            k.seldi,
-        ),
-        selingo: latch_enabled(
-            (before >> 4) % 2 == 1,
-            (value >> 4) % 2 == 1,
-            t.selingo,
-            k.selingo,
-        ),
-        selto: k.selto,
-    };
-    with_selections(q, q.noted, t, latches)
+    Sequencer {
+        latches: Selection {
+            seldo: latch_enabled(
+                (before >> 6) % 2 == 1,
+                (value >> 6) % 2 == 1,
+                q.status.seldo,
+                q.latches.seldo,
+            ),
+            seldi: latch_enabled(
+                (before >> 5) % 2 == 1,
+                (value >> 5) % 2 == 1,
+                q.status.seldi,
+                q.latches.seldi,
+            ),
+            selingo: latch_enabled(
+                (before >> 4) % 2 == 1,
+                (value >> 4) % 2 == 1,
+                q.status.selingo,
+                q.latches.selingo,
+            ),
+            ..q.latches
+        },
+        ..q
+    }
 }
 
 // 351h enables that of SELTO.
@@ -206,20 +148,18 @@ fn timeout_enabled(m: &Image, value: u8) -> Sequencer
 {
     let q = sequencer(m);
     let before = m[image::layout::SIMODE1];
-    let t = q.status;
-    let k = q.latches;
-    let latches = Selection {
-        seldo: k.seldo,
-        seldi: k.seldi,
-        selingo: k.selingo,
-        selto: latch_enabled(
-            (before >> 7) % 2 == 1,
-            (value >> 7) % 2 == 1,
-            t.selto,
-            k.selto,
-        ),
-    };
-    with_selections(q, q.noted, t, latches)
+    Sequencer {
+        latches: Selection {
+            selto: latch_enabled(
+                (before >> 7) % 2 == 1,
+                (value >> 7) % 2 == 1,
+                q.status.selto,
+                q.latches.selto,
+            ),
+            ..q.latches
+        },
+        ..q
+    }
 }
 
 // Five registers change the sequencer; a write of any other leaves it.

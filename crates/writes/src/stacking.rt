@@ -16,7 +16,7 @@ pub fn pushed(m: &mut Image, value: u8)
 {
     let enstk32 = enstk32(m);
     let pointer = m[POINTER];
-    let at = place_of(enstk32, pointer) as usize;
+    let at = usize::from(place_of(enstk32, pointer));
     let next = next_of(enstk32, pointer);
     m[STACK_BYTES + at] = value;
     m[POINTER] = next;
@@ -28,8 +28,7 @@ pub fn popped(m: &mut Image)
     ensures { m.new ≡ image_of (with_stack (stack_read (state_at m.old).registers.dmacntrl1.enstk32 (state_at m.old).stack) (state_at m.old)) }
 {
     let enstk32 = enstk32(m);
-    let pointer = m[POINTER];
-    m[POINTER] = next_of(enstk32, pointer);
+    m[POINTER] = next_of(enstk32, m[POINTER]);
 }
 
 // A write of 353h: "pointer 4-0".

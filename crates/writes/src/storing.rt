@@ -15,41 +15,39 @@ use image::layout::{
     BRSTCNTRL, DMACNTRL0, DMACNTRL1, Image, SCSIDAT, SCSIID, SCSIRATE, SCSISEQ, SCSISIG, SIMODE0,
     SIMODE1, SXFRCTL0, SXFRCTL1,
 };
-use registers::bytes::{
-    dmacntrl0_byte, dmacntrl0_of, dmacntrl1_byte, dmacntrl1_of, scsiseq_byte, scsiseq_of,
-    scsisig_of, simode0_byte, simode0_of, simode1_byte, simode1_of, sxfrctl0_byte, sxfrctl0_of,
-    sxfrctl1_byte, sxfrctl1_of,
-};
+use registers::bytes::{dmacntrl1_byte, dmacntrl1_of, kept, scsisig_of};
 use rules::map::Register;
+use rules::registers::{Dmacntrl0, Scsiseq, Scsisig, Simode0, Simode1, Sxfrctl0, Sxfrctl1};
 
 // 34Ch: "bit 6 clears ATN".
 fn atn_cleared(sig: u8, value: u8) -> u8
     ensures { result ≡ scsisig_byte (with_atn (not (bit value 6) && bit sig 4) (scsisig_of false sig)) }
 {
-    let mut g = scsisig_of(false, sig);
-    let atn = !((value >> 6) % 2 == 1) & ((sig >> 4) % 2 == 1);
-    g.atno = atn;
-    scsisig_byte(g)
+    scsisig_byte(Scsisig {
+        atno: !((value >> 6) % 2 == 1) & ((sig >> 4) % 2 == 1),
+        ..scsisig_of(false, sig)
+    })
 }
 
-// A register that a write finds: its byte without the bits that are not stored.
+// A register that a write finds: its byte without the bits that are not stored. (A type for the registers that a write finds would
+// only be opened again by each match.)
 pub fn stored(m: &mut Image, register: Register, value: u8)
     requires image { IsImage m.old }
     requires written { Written register }
     ensures { m.new ≡ image_of (with_registers (registers_a (state_at m.old).registers (Write (offset_of register) value)) (state_at m.old)) }
 {
     match register {
-        Register::SCSISEQ => m[SCSISEQ] = scsiseq_byte(scsiseq_of(value)),
-        Register::SXFRCTL0 => m[SXFRCTL0] = sxfrctl0_byte(sxfrctl0_of(value)),
-        Register::SXFRCTL1 => m[SXFRCTL1] = sxfrctl1_byte(sxfrctl1_of(value)),
+        Register::SCSISEQ => m[SCSISEQ] = kept::<Scsiseq>(value),
+        Register::SXFRCTL0 => m[SXFRCTL0] = kept::<Sxfrctl0>(value),
+        Register::SXFRCTL1 => m[SXFRCTL1] = kept::<Sxfrctl1>(value),
         Register::SCSISIGO => m[SCSISIG] = scsisig_byte(scsisig_of(atno(m), value)),
         Register::SCSIRATE => m[SCSIRATE] = value % 128,
         Register::SCSIID => m[SCSIID] = (value >> 4) % 8 * 16 + value % 8,
         Register::SCSIDAT => m[SCSIDAT] = value,
         Register::CLRSINT1 => m[SCSISIG] = atn_cleared(m[SCSISIG], value),
-        Register::SIMODE0 => m[SIMODE0] = simode0_byte(simode0_of(value)),
-        Register::SIMODE1 => m[SIMODE1] = simode1_byte(simode1_of(value)),
-        Register::DMACNTRL0 => m[DMACNTRL0] = dmacntrl0_byte(dmacntrl0_of(value)),
+        Register::SIMODE0 => m[SIMODE0] = kept::<Simode0>(value),
+        Register::SIMODE1 => m[SIMODE1] = kept::<Simode1>(value),
+        Register::DMACNTRL0 => m[DMACNTRL0] = kept::<Dmacntrl0>(value),
         Register::DMACNTRL1 => m[DMACNTRL1] = dmacntrl1_byte(dmacntrl1_of(value), 0),
         Register::BRSTCNTRL => m[BRSTCNTRL] = value,
         _ => {}

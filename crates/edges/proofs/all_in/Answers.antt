@@ -9,8 +9,8 @@ use Rattle.edges.proofs.all_in.Goals as goal
 pub applied_in-requires : goal.applied_in-requires
 applied_in-requires c =
     let a = c.args in
-    let s = state_at a.m.now in record { image = c.requires; room = subst (λ (g : Edges). Room g s.transfer) (sym c.edges_of-g.ensures) (room_from a.rst a.req s a.ticks) }
+    let s = state_at a.m.now in record { image = c.requires; room = subst (λ (g : Edges). Room g s.transfer) (sym c.edges_of-g.ensures) (room_from a.was.rst a.was.req s a.ticks) }
 
 pub returns : goal.returns
 returns c =
-    let a = c.args in record { value = ap (λ (g : Edges). g.beyond) c.edges_of-g.ensures; m_after = c.applied_in.ensures ∙ ap (λ (g : Edges). image_of (applied_from g a.mismatched (state_at a.m.now))) c.edges_of-g.ensures }
+    let a = c.args in record { value = ap (λ (g : Edges). g.beyond) c.edges_of-g.ensures; m_after = c.applied_in.ensures ∙ ap (λ (g : Edges). image_of (applied_from g a.was.mismatched (state_at a.m.now))) c.edges_of-g.ensures }

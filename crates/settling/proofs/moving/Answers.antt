@@ -3,5 +3,5 @@ use Rattle.settling.proofs.moving.Goals as goal
 
 pub returns : goal.returns
 returns c =
-    rw c.none-sent.ensures
-    (moves_settle c.args.m.now c.requires.image c.conditions_of-c.result c.conditions_of-c.ensures c.moved-moves.new.m c.moved-moves.result c.moved-moves.ensures c.requires.m_value)
+    rw c.empty.ensures
+    (moves_settle c.args.m.now c.requires.image c.conditions_of-c.result c.conditions_of-c.ensures c.moved.new.m c.moved.result c.moved.ensures c.requires.m_value)

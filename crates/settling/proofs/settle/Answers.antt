@@ -6,7 +6,7 @@ use Rattle.settling.proofs.settle.Goals as goal
 pub returns-then-not-path : goal.returns-then-not-path
 unfolding state_at
 returns-then-not-path c =
-    rw c.none-sent.ensures (none_settles c.args.m.now c.requires (sym c.path.ensures ∙ c.if-not-path.true))
+    rw c.empty.ensures (none_settles c.args.m.now c.requires (sym c.path.ensures ∙ c.if-not-path.true))
 
 pub moving-requires : goal.moving-requires
 moving-requires c =

@@ -5,7 +5,7 @@ use Rattle.edges.proofs.found.busy.Goals as goal
 pub returns-then-reset : goal.returns-then-reset
 returns-then-reset c =
     let m = c.args.m.now in
-    rw (c.if-reset.true, c.drives_sel.ensures, c.sel_driven_by_others.ensures, c.drives_bsy.ensures, c.bsy_driven_by_others.ensures, c.phase-p.ensures)
+    rw (c.if-reset.true, c.drives_sel.ensures, c.sel_of_others.ensures, c.drives_bsy.ensures, c.bsy_of_others.ensures, c.phase-p.ensures)
     (busy_reset (state_at m))
 
 pub returns-else-reset : goal.returns-else-reset

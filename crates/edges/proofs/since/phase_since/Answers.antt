@@ -6,4 +6,4 @@ use Rattle.edges.proofs.since.phase_since.Goals as goal
 pub returns : goal.returns
 returns c =
     let a = c.args in
-    c.phase_in.ensures ∙ ap image_of (phase_as_seen a.x (state_at a.m.now) c.before_of-was.ensures.mismatched_value)
+    c.phase_in.ensures ∙ ap image_of (phase_as_seen a.x (state_at a.m.now) c.before_of.ensures.mismatched_value)

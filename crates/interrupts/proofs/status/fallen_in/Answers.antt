@@ -11,12 +11,12 @@ returns-then-not-reqinit c =
     let m = c.args.m.now in
     status_left m c.requires _ (no_request _ _ c.reqinit.ensures (ap not c.if-not-reqinit.true))
 
-pub returns-then-acks-seen : goal.returns-then-acks-seen
-returns-then-acks-seen c =
+pub returns-then-acks-ack_seen : goal.returns-then-acks-ack_seen
+returns-then-acks-ack_seen c =
     let m = c.args.m.now in
-    status_left m c.requires _ (no_ack c.args.acks _ c.ack_seen-seen.ensures c.if-acks-seen.true)
+    status_left m c.requires _ (no_ack c.args.acks _ c.ack_seen.ensures c.if-acks-ack_seen.true)
 
 pub returns : goal.returns
 returns c =
     let m = c.args.m.now in
-    status_as (state_at m) (ap without_reqinit (c.status_of-t.ensures ∙ sym (status_at m)) ∙ falls c.args.acks _ c.ack_seen-seen.ensures c.if-acks-seen.false) c.status_put.ensures
+    status_as (state_at m) (ap without_reqinit (c.status_of.ensures ∙ sym (status_at m)) ∙ falls c.args.acks _ c.ack_seen.ensures c.if-acks-ack_seen.false) c.status_put.ensures

@@ -20,13 +20,13 @@ unfolding state_at
 returns-then-pio_ready c =
     let m = c.args.m.now in
     let rises = sym c.pio_ready.ensures ∙ c.if-pio_ready.true in
-    status_as (state_at m) (raised_at m (sym rises) (sym (no_conflict (state_at m) rises)) c.status_of-t.ensures) c.status_put.ensures
+    status_as (state_at m) (raised_at m (sym rises) (sym (no_conflict (state_at m) rises)) c.status_of.ensures) c.status_put.ensures
 
 pub returns-then-fifo_conflict : goal.returns-then-fifo_conflict
 unfolding state_at
 returns-then-fifo_conflict c =
     let m = c.args.m.now in
-    status_as (state_at m) (raised_at m (sym c.if-pio_ready.false ∙ c.pio_ready.ensures) (sym c.if-fifo_conflict.true ∙ c.fifo_conflict.ensures) c.status_of-t-then-fifo_conflict.ensures) c.status_put-then-fifo_conflict.ensures
+    status_as (state_at m) (raised_at m (sym c.if-pio_ready.false ∙ c.pio_ready.ensures) (sym c.if-fifo_conflict.true ∙ c.fifo_conflict.ensures) c.status_of-then-fifo_conflict.ensures) c.status_put-then-fifo_conflict.ensures
 
 pub returns-else-fifo_conflict : goal.returns-else-fifo_conflict
 unfolding state_at

@@ -8,7 +8,7 @@ pub returns-then-accessed-acked : goal.returns-then-accessed-acked
 returns-then-accessed-acked c =
     let a = c.args in
     let m = a.m.now in
-    status_left m c.requires _ (status_idle a.accessed a.acked (state_at m).keptbad c.enspchk-enspchk.ensures c.scsiperr-scsiperr.ensures c.if-accessed-acked.true)
+    status_left m c.requires _ (status_idle a.accessed a.acked (state_at m).keptbad c.enspchk-enspchk.ensures c.scsiperr.ensures c.if-accessed-acked.true)
 
 pub returns : goal.returns
 returns c =

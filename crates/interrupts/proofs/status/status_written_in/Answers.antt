@@ -12,4 +12,4 @@ returns c =
     let a = c.args in
     let m = a.m.now in
     let status = c.status_of.ensures ∙ sym (status_at m) in
-    status_as (state_at m) (c.status_written-t.ensures ∙ (λ i. status_a false false (c.enspchk-enspchk.ensures i) (c.kept_bad-kept.ensures i) (status i) (Write a.offset a.value))) c.status_put.ensures
+    status_as (state_at m) (c.status_written-t.ensures ∙ (λ i. status_a false false (c.enspchk.ensures i) (c.kept_bad.ensures i) (status i) (Write a.offset a.value))) c.status_put.ensures

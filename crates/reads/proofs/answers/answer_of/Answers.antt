@@ -39,14 +39,14 @@ returns c =
     (λ i.
     record {
       code = c.args.code;
-      irq = c.irq-irq.ensures i;
+      irq = c.irq.ensures i;
       acks = c.args.acks;
       moves = c.args.moves;
       driving = drives i;
-      rst = c.scsirsto-rst.ensures i;
-      parity = parity_by (state_at m) drives driven c.parity_of-parity.ensures i;
+      rst = c.scsirsto.ensures i;
+      parity = parity_by (state_at m) drives driven c.parity_of.ensures i;
       value = c.args.value;
-      control = c.control_driven-control.ensures i;
+      control = c.control_driven.ensures i;
       driven = driven i;
       offset = get_or m offset_place 0;
       scsi = at_scsi m c.requires i;

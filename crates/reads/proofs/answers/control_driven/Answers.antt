@@ -35,4 +35,4 @@ returns-else-m-eq0 c =
     let m = c.args.m.now in
     let e = c.phase-p.ensures in
     c.control_with-else-m-eq0.ensures
-    ∙ by_lines (state_at m) (c.drives_sel-sel.ensures ∙ ap phase_sel e) (c.drives_bsy-bsy.ensures ∙ ap phase_bsy e)
+    ∙ by_lines (state_at m) (c.drives_sel.ensures ∙ ap phase_sel e) (c.drives_bsy.ensures ∙ ap phase_bsy e)

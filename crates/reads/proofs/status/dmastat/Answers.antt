@@ -11,4 +11,4 @@ unfolding dmastat
 returns c =
     let n = at_host c.args.m.now c.requires in
     c.byte_of.ensures
-    ∙ (λ i. byte_of false (not (c.write-write.ensures i) && leb 2 (n i)) (c.instat-instat.ensures i) (eqb (n i) 128) (eqb (n i) 0) (leb 64 (n i)) false false)
+    ∙ (λ i. byte_of false (not (c.write.ensures i) && leb 2 (n i)) (c.instat.ensures i) (eqb (n i) 128) (eqb (n i) 0) (leb 64 (n i)) false false)

@@ -1,23 +1,9 @@
-use borrow.Author.Rules.{rules}
+use mathlib.Core.Path.{◌∙◌}
+use Rattle.rules.proofs.Phases.{same_phase}
 use Rattle.rules.specs.Sequencer.{begun}
+use Rattle.rules.specs.declared.chip.Phase.TheVariants.{Idle}
 use Rattle.sequencer.proofs.resolved.begun.Goals as goal
 
 pub returns : goal.returns
 unfolding begun
-returns c = cc
-
-pub phase_in-requires : goal.phase_in-requires
-unfolding begun
-phase_in-requires c = search rules
-
-pub is_phase-requires : goal.is_phase-requires
-unfolding begun
-is_phase-requires c = search rules
-
-pub asked-requires : goal.asked-requires
-unfolding begun
-asked-requires c = search rules
-
-pub entered_if-requires : goal.entered_if-requires
-unfolding begun
-entered_if-requires c = search rules
+returns c = let e = c.eq.ensures ∙ same_phase Idle _ in cc

@@ -37,14 +37,15 @@ ticks_after-ticks-requires c =
 pub sequencer_put-requires : goal.sequencer_put-requires
 sequencer_put-requires c =
     let a = c.args in
-    let e = ap (λ (q : Sequencer). q.ticks) c.in_ticks-q.ensures ∙ c.ticks_after-ticks.ensures in record { image = c.requires.image; ticks_lt_counter_size = subst (λ (n : ℕ). n < counter_size) (sym e) (ticks_fit (state_at a.m.now) a.k c.requires.at_rest c.requires.image.range c.requires.k_bound) }
+    record { image = c.requires.image; ticks_lt_counter_size = subst (λ (n : ℕ). n < counter_size) (sym c.ticks_after-ticks.ensures) (ticks_fit (state_at a.m.now) a.k c.requires.at_rest c.requires.image.range c.requires.k_bound) }
 
 pub returns : goal.returns
 unfolding advanced
 returns c =
     let a = c.args in
     let s = state_at a.m.now in
-    let e = c.in_ticks-q.ensures ∙ (λ i. in_ticks (c.ticks_after-ticks.ensures i) (c.sequencer.ensures i)) in
+    let e : in_ticks c.ticks_after-ticks.result c.sequencer-q.result ≡ in_ticks (cond (eqb a.k 0) s.sequencer.ticks (ticks_in s.sequencer.phase a.k s)) s.sequencer =
+    λ i. in_ticks (c.ticks_after-ticks.ensures i) (c.sequencer-q.ensures i) in
     (λ i. set (c.sequencer_put.ensures i) quiet_place (c.quiet_after-quiet.ensures i))
-    ∙ quiet_image c.in_ticks-q.result (quiet_after a.k s) s
+    ∙ quiet_image (in_ticks c.ticks_after-ticks.result c.sequencer-q.result) (quiet_after a.k s) s
     ∙ ap (λ (q : Sequencer). image_of (with_quiet (quiet_after a.k s) (with_sequencer q s))) e

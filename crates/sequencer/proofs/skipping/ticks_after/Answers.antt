@@ -1,8 +1,5 @@
-use borrow.Author.Tests.{eq-eqb, ne_eqb}
+use borrow.Author.Tests.{ne_eqb}
 use Rattle.sequencer.proofs.skipping.ticks_after.Goals as goal
-
-pub returns-then-k-eq0 : goal.returns-then-k-eq0
-returns-then-k-eq0 c = rw (eq-eqb c.args.k 0 c.if-k-eq0.true) c.ticks_spent.ensures
 
 pub returns-else-k-eq0 : goal.returns-else-k-eq0
 returns-else-k-eq0 c = rw (ne_eqb c.args.k 0 c.if-k-eq0.false) c.ticks_in.ensures

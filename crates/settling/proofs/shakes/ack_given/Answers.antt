@@ -9,7 +9,7 @@ use Rattle.settling.proofs.shakes.ack_given.Goals as goal
 pub returns-then-synchronous : goal.returns-then-synchronous
 returns-then-synchronous c =
     let s = state_at c.args.m.now in
-    ack_pulse s c.counter_stepped-passed.new.m c.less_one.result c.counter_stepped-passed.ensures.m_after c.less_one.ensures
+    ack_pulse s c.counter_stepped-passed.new.m c.saturating_sub.result c.counter_stepped-passed.ensures.m_after c.saturating_sub.ensures
     ∙ ap (λ (y : Bool). image_of (with_transfer (acknowledged y s.transfer) s)) (sym c.if-synchronous.true)
 
 pub returns-else-synchronous : goal.returns-else-synchronous

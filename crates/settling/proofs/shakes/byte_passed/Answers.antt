@@ -15,8 +15,8 @@ use Rattle.settling.proofs.Carries.{scsi_held}
 use Rattle.settling.proofs.Handshakes.{pass_none, pass_stored, pass_sent}
 use Rattle.settling.proofs.shakes.byte_passed.Goals as goal
 
-pub byte_sent-b-requires : goal.byte_sent-b-requires
-byte_sent-b-requires c =
+pub byte_sent-requires : goal.byte_sent-requires
+byte_sent-requires c =
     record { image = c.requires.image; scsi_nonzero = handshake_outbound c.args.c (state_at c.args.m.now).transfer c.if-c.true c.requires.m_value }
 
 pub returns-then-c : goal.returns-then-c
@@ -24,10 +24,10 @@ returns-then-c c =
     let o = c.if-c.true in
     let t = (state_at c.args.m.now).transfer in
     let v = sent_view c.args.sent in (
-      c.one_more.ensures ∙ ap (λ (b : ℕ). sent_of (v ++ (b ∷ []))) c.byte_sent-b.ensures.0
+      c.one_more.ensures ∙ ap (λ (b : ℕ). sent_of (v ++ (b ∷ []))) c.byte_sent.ensures.0
           ∙ ap (λ (l : List ℕ). sent_of (v ++ l)) (sym (take_one t.scsi (handshake_outbound c.args.c t o c.requires.m_value)))
           ∙ ap (λ (y : Bool). sent_of (cond y (v ++ take 1 t.scsi) v)) (sym o),
-      c.byte_sent-b.ensures.1
+      c.byte_sent.ensures.1
           ∙ ap (λ (x : Transfer). image_of (with_transfer x (state_at c.args.m.now))) (sym (pass_sent c.args.c.outbound (stored_by c.args.c) t o)),
     )
 

@@ -1,4 +1,3 @@
-use borrow.Author.Rules.{rules}
 use Rattle.rules.specs.Events.{writes, value_of}
 use Rattle.rules.specs.StepA.{clears, clears_latch, registers_a, gives_up, selection_a, noted_a, selection_latches_a, sequencer_a}
 use Rattle.image.specs.Image.{state_at}
@@ -6,28 +5,4 @@ use Rattle.writes.proofs.selecting.selection_enabled.Goals as goal
 
 pub returns : goal.returns
 unfolding sequencer_a selection_a noted_a selection_latches_a gives_up registers_a clears clears_latch writes value_of state_at
-returns c = rw (c.with_selections.ensures, c.latch_enabled-3.ensures, c.latch_enabled-2.ensures, c.latch_enabled.ensures, c.sequencer-q.ensures)
-
-pub sequencer-q-requires : goal.sequencer-q-requires
-unfolding sequencer_a selection_a noted_a selection_latches_a gives_up registers_a clears clears_latch writes value_of state_at
-sequencer-q-requires c = search rules
-
-pub bounds-m-7 : goal.bounds-m-7
-unfolding sequencer_a selection_a noted_a selection_latches_a gives_up registers_a clears clears_latch writes value_of state_at
-bounds-m-7 c = search rules
-
-pub latch_enabled-requires : goal.latch_enabled-requires
-unfolding sequencer_a selection_a noted_a selection_latches_a gives_up registers_a clears clears_latch writes value_of state_at
-latch_enabled-requires c = search rules
-
-pub latch_enabled-requires-2 : goal.latch_enabled-requires-2
-unfolding sequencer_a selection_a noted_a selection_latches_a gives_up registers_a clears clears_latch writes value_of state_at
-latch_enabled-requires-2 c = search rules
-
-pub latch_enabled-requires-3 : goal.latch_enabled-requires-3
-unfolding sequencer_a selection_a noted_a selection_latches_a gives_up registers_a clears clears_latch writes value_of state_at
-latch_enabled-requires-3 c = search rules
-
-pub with_selections-requires : goal.with_selections-requires
-unfolding sequencer_a selection_a noted_a selection_latches_a gives_up registers_a clears clears_latch writes value_of state_at
-with_selections-requires c = search rules
+returns c = rw (c.latch_enabled-3.ensures, c.latch_enabled-2.ensures, c.latch_enabled.ensures, c.sequencer-q.ensures)

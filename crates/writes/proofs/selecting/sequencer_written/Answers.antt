@@ -1,6 +1,6 @@
+use Rattle.std.specs.Prelude.{Some}
 use mathlib.Core.Path.{◌∙◌}
 use Rattle.rules.specs.Map.{offset_of}
-use Rattle.rules.specs.declared.map.Mapped.TheVariants.{Present}
 use Rattle.image.specs.Image.{state_at}
 use Rattle.writes.proofs.StoringRegisters.{apart, far_from, unsequenced}
 use borrow.Enum.Refused.{opened}
@@ -25,4 +25,4 @@ pub returns-in_default : goal.returns-in_default
 returns-in_default c =
     let x = c.args in
     c.sequencer.ensures
-    ∙ unsequenced (offset_of x.register) x.value (Present x.register) c.requires (state_at x.m.now) (far_from apart x.register (opened c.in_default.in_default-own.keys6))
+    ∙ unsequenced (offset_of x.register) x.value (Some x.register) c.requires (state_at x.m.now) (far_from apart x.register (opened c.in_default.in_default-own.keys6))

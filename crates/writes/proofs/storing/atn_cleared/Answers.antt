@@ -9,4 +9,4 @@ use Rattle.writes.proofs.storing.atn_cleared.Goals as goal
 pub returns : goal.returns
 returns c =
     let x = c.args in
-    c.scsisig_byte.ensures ∙ ap (λ (g : Scsisig). scsisig_byte (with_atn (not (bit x.value 6) && bit x.sig 4) g)) c.scsisig_of-g.ensures
+    c.scsisig_byte.ensures ∙ ap (λ (g : Scsisig). scsisig_byte (with_atn (not (bit x.value 6) && bit x.sig 4) g)) c.scsisig_of.ensures

@@ -1,8 +1,8 @@
+use Rattle.std.specs.Prelude.{Some}
 use mathlib.Core.Path.{ap, ◌∙◌}
 use Rattle.rules.specs.Map.{offset_of}
-use Rattle.rules.specs.Registers.{scsiseq_byte, sxfrctl0_byte, sxfrctl1_byte, simode0_byte, simode1_byte, dmacntrl0_byte, dmacntrl1_byte}
+use Rattle.rules.specs.Registers.{dmacntrl1_byte}
 use Rattle.rules.specs.declared.registers.Dmacntrl1.{Dmacntrl1}
-use Rattle.rules.specs.declared.map.Mapped.TheVariants.{Present}
 use Rattle.rules.specs.declared.records.Event.TheVariants.{Write}
 use Rattle.image.specs.Image.{state_at, scsisig_byte}
 use Rattle.writes.proofs.StoringRegisters.{plain, far_from, unstored}
@@ -12,15 +12,15 @@ use Rattle.writes.proofs.storing.stored.Goals as goal
 
 pub returns-in-SCSISEQ : goal.returns-in-SCSISEQ
 returns-in-SCSISEQ c =
-    rw (c.in-SCSISEQ.is, c.scsiseq_byte.ensures ∙ ap scsiseq_byte c.scsiseq_of.ensures) (put_scsiseq c.args.value c.args.m.now c.requires.image)
+    rw (c.in-SCSISEQ.is, c.kept.ensures) (put_scsiseq c.args.value c.args.m.now c.requires.image)
 
 pub returns-in-SXFRCTL0 : goal.returns-in-SXFRCTL0
 returns-in-SXFRCTL0 c =
-    rw (c.in-SXFRCTL0.is, c.sxfrctl0_byte.ensures ∙ ap sxfrctl0_byte c.sxfrctl0_of.ensures) (put_sxfrctl0 c.args.value c.args.m.now c.requires.image)
+    rw (c.in-SXFRCTL0.is, c.kept-in-SXFRCTL0.ensures) (put_sxfrctl0 c.args.value c.args.m.now c.requires.image)
 
 pub returns-in-SXFRCTL1 : goal.returns-in-SXFRCTL1
 returns-in-SXFRCTL1 c =
-    rw (c.in-SXFRCTL1.is, c.sxfrctl1_byte.ensures ∙ ap sxfrctl1_byte c.sxfrctl1_of.ensures) (put_sxfrctl1 c.args.value c.args.m.now c.requires.image)
+    rw (c.in-SXFRCTL1.is, c.kept-in-SXFRCTL1.ensures) (put_sxfrctl1 c.args.value c.args.m.now c.requires.image)
 
 pub returns-in-SCSISIGO : goal.returns-in-SCSISIGO
 returns-in-SCSISIGO c =
@@ -45,15 +45,15 @@ returns-in-CLRSINT1 c =
 
 pub returns-in-SIMODE0 : goal.returns-in-SIMODE0
 returns-in-SIMODE0 c =
-    rw (c.in-SIMODE0.is, c.simode0_byte.ensures ∙ ap simode0_byte c.simode0_of.ensures) (put_simode0 c.args.value c.args.m.now c.requires.image)
+    rw (c.in-SIMODE0.is, c.kept-in-SIMODE0.ensures) (put_simode0 c.args.value c.args.m.now c.requires.image)
 
 pub returns-in-SIMODE1 : goal.returns-in-SIMODE1
 returns-in-SIMODE1 c =
-    rw (c.in-SIMODE1.is, c.simode1_byte.ensures ∙ ap simode1_byte c.simode1_of.ensures) (put_simode1 c.args.value c.args.m.now c.requires.image)
+    rw (c.in-SIMODE1.is, c.kept-in-SIMODE1.ensures) (put_simode1 c.args.value c.args.m.now c.requires.image)
 
 pub returns-in-DMACNTRL0 : goal.returns-in-DMACNTRL0
 returns-in-DMACNTRL0 c =
-    rw (c.in-DMACNTRL0.is, c.dmacntrl0_byte.ensures ∙ ap dmacntrl0_byte c.dmacntrl0_of.ensures) (put_dmacntrl0 c.args.value c.args.m.now c.requires.image)
+    rw (c.in-DMACNTRL0.is, c.kept-in-DMACNTRL0.ensures) (put_dmacntrl0 c.args.value c.args.m.now c.requires.image)
 
 pub returns-in-DMACNTRL1 : goal.returns-in-DMACNTRL1
 returns-in-DMACNTRL1 c =
@@ -68,5 +68,5 @@ returns-in_default c =
     let x = c.args in
     let s = state_at x.m.now in
     unchanged (Write (offset_of x.register) x.value) x.m.now c.requires.image
-    (unstored (offset_of x.register) x.value (Present x.register) c.requires.written s.registers
+    (unstored (offset_of x.register) x.value (Some x.register) c.requires.written s.registers
     (far_from plain x.register (opened c.in_default.in_default-own.keys14)))
