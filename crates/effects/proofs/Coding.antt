@@ -3,7 +3,9 @@ use mathlib.Core.Path.{◌≡◌, refl, ap, sym, ◌∙◌}
 use mathlib.Core.Bool.{Bool, true, false}
 use mathlib.Core.List.{List}
 use Prim.Native.Nat.{ℕ, ◌+◌, ◌≤◌}
-use lib.Dec.{ltb}
+use native.Mathlib.Omega.{arith}
+use lib.Dec.{leb, ltb}
+use Rattle.std.proofs.lemmas.Bool.Decides.{nat_tests}
 use lib.ListN.{length, get_or}
 use Rattle.rules.specs.State.{State}
 use Rattle.rules.specs.Map.{table, read_at, written_at}
@@ -25,6 +27,13 @@ count_of : (s : State) → get_or (image_of s) host_count_place 0 ≡ length s.t
 unfolding image_of
 count_of s = refl
 
+-- no room, as the code tests it
+room_for_one : (held : ℕ) → leb 128 held ≡ ltb 128 (held + 1)
+room_for_one held = grind (arith, nat_tests)
+
+room_for_two : (held : ℕ) → leb 127 held ≡ ltb 128 (held + 2)
+room_for_two held = grind (arith, nat_tests)
+
 -- an access to the port by the tests that the code makes: shut, full, short
 pub record Tests (s : State) (e : Event) (shut full short : Bool) : Type 0 where
   pub code : first_of false false shut full short ≡ access_code s e
@@ -43,16 +52,16 @@ module _ {m : List ℕ} (g : IsImage m) where
   d = (state_at m).registers.dmacntrl0
 
   -- the four accesses to the data port
-  pub byte_write_tests : (v : ℕ) → Tests (state_at m) (Write 0x16 v) (shut_to d false false) (ltb 128 (get_or m host_count_place 0 + 1)) false
+  pub byte_write_tests : (v : ℕ) → Tests (state_at m) (Write 0x16 v) (shut_to d false false) (leb 128 (get_or m host_count_place 0)) false
   unfolding table written_at
-  byte_write_tests v = record { code = accesses.written d (get_or m host_count_place 0) held_fits 0x16 v ∙ code_at_is (Write 0x16 v) }
+  byte_write_tests v = record { code = rw (room_for_one (get_or m host_count_place 0)) (accesses.written d (get_or m host_count_place 0) held_fits 0x16 v ∙ code_at_is (Write 0x16 v)) }
 
   pub byte_read_tests : Tests (state_at m) (Read 0x16) (shut_to d false true) false (ltb (get_or m host_count_place 0) 1)
   unfolding table read_at
   byte_read_tests = record { code = accesses.read d (get_or m host_count_place 0) held_fits 0x16 ∙ code_at_is (Read 0x16) }
 
-  pub word_write_tests : (w : ℕ) → Tests (state_at m) (WordWrite w) (shut_to d true false) (ltb 128 (get_or m host_count_place 0 + 2)) false
-  word_write_tests w = record { code = accesses.word_written_lem d (get_or m host_count_place 0) held_fits w ∙ code_at_is (WordWrite w) }
+  pub word_write_tests : (w : ℕ) → Tests (state_at m) (WordWrite w) (shut_to d true false) (leb 127 (get_or m host_count_place 0)) false
+  word_write_tests w = record { code = rw (room_for_two (get_or m host_count_place 0)) (accesses.word_written_lem d (get_or m host_count_place 0) held_fits w ∙ code_at_is (WordWrite w)) }
 
   pub word_read_tests : Tests (state_at m) WordRead (shut_to d true true) false (ltb (get_or m host_count_place 0) 2)
   word_read_tests = record { code = accesses.word_read_lem d (get_or m host_count_place 0) held_fits ∙ code_at_is WordRead }

@@ -1,5 +1,5 @@
 -- What a write to each register does, by computing.
-use Prim.Native.Nat.{ℕ, ◌<◌}
+use Prim.Native.Nat.{ℕ, zero, suc, ◌+◌, ◌<◌}
 use mathlib.Core.Path.{◌≡◌, refl, ◌∙◌}
 use mathlib.Core.Bool.{Bool, false, not, ◌&&◌, or-false}
 use mathlib.Core.List.{List, [], ◌∷◌, ◌++◌}
@@ -85,17 +85,12 @@ unfolding Leaving
 fills {m} g {v} f p q = record { image = g; fits = (scsidat.fits, f); done = scsidat.done (state_at m) v g.range.transfer.host; after = (λ i. latch_filled (p i) (q i) (state_at m) v) ∙ scsidat.after (state_at m) v }
 
 -- "The counter writes as 24 bits, 348h lowest"
-pub stcnt0 : Does 0x08 (λ (s : State) (v : ℕ). kept (counter_written 0 v s))
+pub stcnt : (k : ℕ) → k < 3 → Does (0x08 + k) (λ (s : State) (v : ℕ). kept (counter_written k v s))
 unfolding Leaving
-stcnt0 = record { fits = omega arith; done = λ s v. write_code s 0x08 v; after = λ s v. refl }
-
-pub stcnt1 : Does 0x09 (λ (s : State) (v : ℕ). kept (counter_written 1 v s))
-unfolding Leaving
-stcnt1 = record { fits = omega arith; done = λ s v. write_code s 0x09 v; after = λ s v. refl }
-
-pub stcnt2 : Does 0x0A (λ (s : State) (v : ℕ). kept (counter_written 2 v s))
-unfolding Leaving
-stcnt2 = record { fits = omega arith; done = λ s v. write_code s 0x0A v; after = λ s v. refl }
+stcnt zero h = record { fits = omega arith; done = λ s v. write_code s 0x08 v; after = λ s v. refl }
+stcnt (suc zero) h = record { fits = omega arith; done = λ s v. write_code s 0x09 v; after = λ s v. refl }
+stcnt (suc (suc zero)) h = record { fits = omega arith; done = λ s v. write_code s 0x0A v; after = λ s v. refl }
+stcnt (suc (suc (suc k))) h = absurd (omega (arith, h))
 
 -- "A write to 34Bh clears latches only"
 pub clrsint0 : Does 0x0B (λ (s : State) (v : ℕ). with_latches (latches_a s.latches (Write 0x0B v)) (kept (sequencing 0x0B s v)))

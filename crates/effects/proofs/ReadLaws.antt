@@ -1,4 +1,5 @@
 -- A register read: its code, and the image that is left once SCSIPERR is held.
+use Rattle.std.specs.Prelude.{Some, None, Result}
 use Prim.Native.Nat.{ℕ, ◌<◌}
 use mathlib.Core.Path.{◌≡◌, refl, ap, sym, ◌∙◌}
 use mathlib.Core.Bool.{Bool, true, false, ◌&&◌}
@@ -15,11 +16,11 @@ use Rattle.rules.specs.StepA.{clears, clears_error, latch_access, automatic_ack,
 use Rattle.rules.specs.declared.codes.Code.{Code}
 use Rattle.rules.specs.declared.codes.Code.TheVariants.{Done}
 use Rattle.rules.specs.declared.map.Register.{Register}
-use Rattle.rules.specs.declared.map.Mapped.TheVariants.{Present, Missing}
 use Rattle.rules.specs.declared.records.Event.TheVariants.{Read, WordRead}
 use Rattle.rules.specs.Changed.{with_status}
 use Rattle.image.specs.Image.{image_of, state_at, IsImage}
-use Rattle.effects.specs.declared.Acted.{Acted}
+use Rattle.effects.specs.declared.Effect.{Effect}
+use Rattle.effects.specs.declared.Ended.{Ended}
 use Rattle.effects.specs.Acting.{Acts, refused_as, done_with}
 use Rattle.effects.specs.CodeBy.{shut_to, first_of}
 use Rattle.effects.proofs.Accesses.{read}
@@ -33,15 +34,14 @@ module _ {m : List ℕ} (g : IsImage m) (o : ℕ) where
   read_code : first_of (is_refusal (mapped_code (read_at o))) false (eqb o 0x16 && shut_to (state_at m).registers.dmacntrl0 false true) false (eqb o 0x16 && ltb (get_or m host_count_place 0) 1) ≡ access_code (state_at m) (Read o)
   read_code = read (state_at m).registers.dmacntrl0 (get_or m host_count_place 0) (held_fits g) o ∙ code_at_is g (Read o)
 
-  pub read_done : (r : Register) → read_at o ≡ Present r → eqb o 0x16 ≡ false → access_code (state_at m) (Read o) ≡ Done
+  pub read_done : (r : Register) → read_at o ≡ Some r → eqb o 0x16 ≡ false → access_code (state_at m) (Read o) ≡ Done
   read_done r found away = sym (rw (found, away) at read_code)
 
-  pub read_missing : read_at o ≡ Missing → access_code (state_at m) (Read o) ≡ mapped_code Missing
+  pub read_missing : read_at o ≡ None → access_code (state_at m) (Read o) ≡ mapped_code None
   read_missing found = sym (rw found at read_code)
 
-  pub read_refused : (k : Code) {a : Acted} → access_code (state_at m) (Read o) ≡ k → is_done k ≡ false → a ≡ refused_as k (refused_value (Read o)) → Acts (state_at m) (Read o) m a
-  unfolding ticks_of
-  read_refused k d f a = acts_refused (state_at m) (Read o) k d f g.packed refl a
+  pub read_refused : (k : Code) {a : Result Effect Ended} → access_code (state_at m) (Read o) ≡ k → is_done k ≡ false → a ≡ refused_as k (refused_value (Read o)) → Acts (state_at m) (Read o) m a
+  read_refused k d f a = acts_refused (state_at m) (Read o) k d f g.packed a
 
 -- "While ENSPCHK is 0, SCSIPERR is held at 0": all but that is done by the time it comes
 abbrev pub unheld : State → ℕ → State
@@ -76,6 +76,6 @@ module _ {m : List ℕ} (g : IsImage m) (o : ℕ) (f : o < 32) (d : access_code 
           ∙ (λ i. image_of (with_status (status_a (p i) (q i) (unheld s o).registers.sxfrctl1.enspchk (unheld s o).keptbad s.status WordRead) (unheld s o)))
           ∙ ap image_of (hold_last s o)
 
-      pub read_acts : {m2 : List ℕ} {v : ℕ} {a : Acted} → m2 ≡ image_of (with_status (status_a accessed acked (state_at m1).registers.sxfrctl1.enspchk (state_at m1).keptbad (state_at m1).status WordRead) (state_at m1)) → v ≡ value_read s (Read o) → a ≡ done_with v 0 → Acts s (Read o) m2 a
+      pub read_acts : {m2 : List ℕ} {v : ℕ} {a : Result Effect Ended} → m2 ≡ image_of (with_status (status_a accessed acked (state_at m1).registers.sxfrctl1.enspchk (state_at m1).keptbad (state_at m1).status WordRead) (state_at m1)) → v ≡ value_read s (Read o) → a ≡ done_with v 0 → Acts s (Read o) m2 a
       unfolding ticks_of
       read_acts h v a = acts_done s (Read o) d (held h) v refl a

@@ -1,4 +1,5 @@
 -- What a read of each register does beside the hold, and gives: the parts of A that are left out change nothing.
+use Rattle.std.specs.Prelude.{Some}
 use Prim.Native.Nat.{ℕ, ◌+◌, ◌%◌}
 use mathlib.Core.Path.{◌≡◌, refl, ap}
 use mathlib.Core.Bool.{Bool, false, ◌&&◌}
@@ -13,7 +14,6 @@ use Rattle.rules.specs.Stack.{stack_read, stack_byte}
 use Rattle.rules.specs.Reads.{scsibus, id_bytes, read_of, value_read}
 use Rattle.rules.specs.StepA.{clears, clears_latch, clrstcnt, clrch, rstfifo, latch_access, automatic_ack, registers_a, host_a, counter_a, transfer_a, latches_a, stack_a, identity_a, sequencer_a, gives_up, selection_a, noted_a, selection_latches_a, after_a}
 use Rattle.rules.specs.declared.map.Register.{Register}
-use Rattle.rules.specs.declared.map.Mapped.TheVariants.{Present}
 use Rattle.rules.specs.declared.records.Event.TheVariants.{Read}
 use Rattle.rules.specs.Changed.{with_stack, with_identity}
 use Rattle.image.specs.Image.{state_at}
@@ -68,7 +68,7 @@ module _ (s : State) where
     unfolding after_a lines_after registers_a transfer_a host_a counter_a latches_a stack_a identity_a sequencer_a gives_up selection_a noted_a selection_latches_a clears clears_latch clrstcnt clrch rstfifo writes reads asked port_write
     plain_left p k i = rw (← unacked, p, k, i)
 
-  pub plain_value : (o : ℕ) (r : Register) → read_at o ≡ Present r → read_of s r ≡ value_read s (Read o)
+  pub plain_value : (o : ℕ) (r : Register) → read_at o ≡ Some r → read_of s r ≡ value_read s (Read o)
   unfolding value_read
   plain_value o r found = rw found
 

@@ -1,4 +1,5 @@
 -- The states that an event goes through in A, each with its image.
+use Rattle.std.specs.Prelude.{Result}
 use Prim.Native.Nat.{ℕ}
 use mathlib.Core.Path.{◌≡◌, refl, ap, sym, subst, ◌∙◌}
 use mathlib.Core.Bool.{Bool}
@@ -15,7 +16,8 @@ use Rattle.rules.specs.declared.records.Event.{Event}
 use Rattle.rules.specs.declared.records.Event.TheVariants.{Write}
 use Rattle.rules.specs.Changed.{with_lines, with_registers, with_transfer, with_status, with_latches, with_stack, with_sequencer}
 use Rattle.image.specs.Image.{image_of, state_at, IsImage}
-use Rattle.effects.specs.declared.Acted.{Acted}
+use Rattle.effects.specs.declared.Effect.{Effect}
+use Rattle.effects.specs.declared.Ended.{Ended}
 use Rattle.effects.specs.Acting.{Acts, done_with}
 use Rattle.effects.proofs.Endings.{acts_done}
 use Rattle.effects.proofs.ImageOnward.{image_is, onward, a_fits, a_bytes}
@@ -108,10 +110,10 @@ module _ {b : List ℕ} {e : Event} {w : State} (l : Leaves b e w) where
         }
 
   -- all of what it leaves
-  pub acts_with : {v n : ℕ} {m : List ℕ} {a : Acted} → v ≡ value_read (state_at b) e → n ≡ ticks_of e → Reached m w → a ≡ done_with v n → Acts (state_at b) e m a
+  pub acts_with : {v n : ℕ} {m : List ℕ} {a : Result Effect Ended} → v ≡ value_read (state_at b) e → n ≡ ticks_of e → Reached m w → a ≡ done_with v n → Acts (state_at b) e m a
   acts_with p q r h = acts_done (state_at b) e l.done (r.image ∙ ap image_of l.after) p q h
 
 -- a write gives no value
-pub acts : {b : List ℕ} {o v : ℕ} {w : State} → Leaves b (Write o v) w → {n : List ℕ} {a : Acted} → Reached n w → a ≡ done_with 0 0 → Acts (state_at b) (Write o v) n a
+pub acts : {b : List ℕ} {o v : ℕ} {w : State} → Leaves b (Write o v) w → {n : List ℕ} {a : Result Effect Ended} → Reached n w → a ≡ done_with 0 0 → Acts (state_at b) (Write o v) n a
 unfolding value_read ticks_of
 acts l r h = acts_with l refl refl r h

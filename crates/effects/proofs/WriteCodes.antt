@@ -1,4 +1,5 @@
 -- The code of a write, by its offset and, at the test registers, its value.
+use Rattle.std.specs.Prelude.{None}
 use Prim.Native.Nat.{ℕ, ◌+◌, ◌<◌, ◌≤◌}
 use mathlib.Core.Path.{◌≡◌, refl, sym, ◌∙◌}
 use mathlib.Core.Bool.{true, false, not, ◌&&◌, ◌||◌}
@@ -11,7 +12,6 @@ use Rattle.rules.specs.Map.{written_at}
 use Rattle.rules.specs.State.{State}
 use Rattle.rules.specs.Codes.{access_code, is_refusal, mapped_code}
 use Rattle.rules.specs.declared.codes.Code.TheVariants.{Done, TestValue}
-use Rattle.rules.specs.declared.map.Mapped.TheVariants.{Missing}
 use Rattle.rules.specs.declared.records.Event.TheVariants.{Write}
 use Rattle.image.specs.Image.{state_at, IsImage}
 use Rattle.effects.specs.CodeBy.{shut_to, first_of}
@@ -42,7 +42,7 @@ module _ {m : List ℕ} (g : IsImage m) (v : ℕ) where
   abbrev s : State
   s = state_at m
 
-  pub absent : (o : ℕ) → written_at o ≡ Missing → access_code s (Write o v) ≡ mapped_code Missing
+  pub absent : (o : ℕ) → written_at o ≡ None → access_code s (Write o v) ≡ mapped_code None
   absent o h = write_code s o v g.range.transfer.host ∙ rw h
 
   module _ {o : ℕ} (t : Test o) where

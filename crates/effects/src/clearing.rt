@@ -5,7 +5,7 @@ ghost use Rattle.rules.specs.declared.records.Event.TheVariants.{Write};
 ghost use Rattle.image.specs.Image.{IsImage, state_at};
 ghost use Rattle.effects.specs.Acting.{Acts};
 
-use crate::{Acted, done_with};
+use crate::{Acted, Effect};
 use image::layout::Image;
 use interrupts::latches::latches_written_in;
 use interrupts::status::{status_kept_in, status_written_in};
@@ -21,7 +21,7 @@ pub fn ready_cleared(m: &mut Image, value: u8) -> Acted
     sequencer_written_in(m, Register::CLRSINT0, value);
     status_kept_in(m, false, false);
     latches_written_in(m, 0x0B, value);
-    done_with(0, 0)
+    Ok(Effect { value: 0, ticks: 0 })
 }
 
 // "A write to 34Ch clears the named status bits and latches; bit 6 clears ATN.", bit 7 SELTO.
@@ -33,7 +33,7 @@ pub fn interrupts_cleared(m: &mut Image, value: u8) -> Acted
     stored(m, Register::CLRSINT1, value);
     status_written_in(m, 0x0C, value);
     latches_written_in(m, 0x0C, value);
-    done_with(0, 0)
+    Ok(Effect { value: 0, ticks: 0 })
 }
 
 // "34Fh clears errors."
@@ -42,5 +42,5 @@ pub fn errors_cleared(m: &mut Image, value: u8) -> Acted
     ensures { Acts (state_at m.old) (Write (offset_of CLRSERR) value) m.new result }
 {
     status_written_in(m, 0x0F, value);
-    done_with(0, 0)
+    Ok(Effect { value: 0, ticks: 0 })
 }

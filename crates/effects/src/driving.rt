@@ -6,7 +6,7 @@ ghost use Rattle.rules.specs.Changed.{with_lines};
 ghost use Rattle.image.specs.Image.{IsImage, image_of, state_at};
 ghost use Rattle.effects.specs.Acting.{Acts};
 
-use crate::{Acted, done_with};
+use crate::{Acted, Effect, done};
 use image::layout::{Image, LINES_CONTROL, LINES_DATA, LINES_UPPER};
 use interrupts::status::status_kept_in;
 
@@ -26,8 +26,7 @@ pub fn drive_in(m: &mut Image, high: u8, middle: u8, low: u8) -> Acted
     ensures { Acts (state_at m.old) (Drive (lines_of (payload_of high middle low))) m.new result }
 {
     lines_put(m, high, middle, low);
-    status_kept_in(m, false, false);
-    done_with(0, 0)
+    done(m, 0)
 }
 
 // Ticks: B counts them.
@@ -37,5 +36,5 @@ pub fn ticked(m: &mut Image, n: u32) -> Acted
     ensures { Acts (state_at m.old) (Ticks n) m.new result }
 {
     status_kept_in(m, false, false);
-    done_with(0, n)
+    Ok(Effect { value: 0, ticks: n })
 }

@@ -1,11 +1,14 @@
 // A, "The event's own effect", in place: the checks of an access, and what it does.
 #![tactic(auto)]
 
-ghost use Rattle.std.specs.Prelude.{◌≡◌};
+ghost use Rattle.std.specs.Prelude.{◌≡◌, cond};
 ghost use Rattle.rules.specs.Codes.{refused_value, mapped_code, mapped_value};
-ghost use Rattle.rules.specs.declared.map.Mapped.TheVariants.{Missing};
-ghost use Rattle.effects.specs.Acting.{refused_as, done_with};
+ghost use Rattle.image.specs.Image.{IsImage, image_of, state_at};
+ghost use Rattle.effects.specs.Acting.{ended_with, checked_as, done_with};
+ghost use Rattle.effects.specs.Writes.{kept};
 
+use image::layout::Image;
+use interrupts::status::status_kept_in;
 use rules::codes::Code;
 use rules::records::Event;
 use wire::refused_value;
@@ -17,49 +20,51 @@ pub mod reading;
 mod scsidat;
 pub mod writing;
 
-// What A hands on: the code, the value and the ticks of the event, and whether the answer is ready, since it was refused.
+// An event that goes on to B: the value that it reads, and its ticks.
 #[derive(Clone, Copy)]
-pub struct Acted {
-    pub code: Code,
+pub struct Effect {
     pub value: u16,
     pub ticks: u32,
-    pub ends: bool,
 }
 
-// An answer that is ready: a refusal, or a power reset.
-pub fn refused_as(code: Code, value: u16) -> Acted
-    ensures { result ≡ refused_as code value }
-{
-    Acted {
-        code: code,
-        value: value,
-        ticks: 0,
-        ends: true,
-    }
+// An answer that is ready: that of a refusal, or of a power reset.
+#[derive(Clone, Copy)]
+pub struct Ended {
+    pub code: Code,
+    pub value: u16,
 }
+
+// What A hands on.
+pub type Acted = Result<Effect, Ended>;
 
 // An access that is refused, with the value that document 01 gives the refusals of its kind.
-fn refused(code: Code, e: Event) -> Acted
-    ensures { result ≡ refused_as code (refused_value e) }
+fn refused(code: Code, e: Event) -> Ended
+    ensures { result ≡ ended_with code (refused_value e) }
 {
-    refused_as(code, refused_value(e))
+    let value = refused_value(e);
+    Ended { code, value }
 }
 
 // An access that finds nothing at its offset: "register absent in that direction".
-fn absent(e: Event) -> Acted
-    ensures { result ≡ refused_as (mapped_code Missing) (mapped_value Missing e) }
+fn absent(e: Event) -> Ended
+    ensures { result ≡ ended_with (mapped_code None) (mapped_value None e) }
 {
     refused(Code::Absent, e)
 }
 
-// An event that goes on to B.
-pub fn done_with(value: u16, ticks: u32) -> Acted
-    ensures { result ≡ done_with value ticks }
+// One of the checks: an access that it finds is refused with its code.
+fn check(found: bool, code: Code, e: Event) -> Result<(), Ended>
+    ensures { result ≡ checked_as found code e }
 {
-    Acted {
-        code: Code::Done,
-        value: value,
-        ticks: ticks,
-        ends: false,
-    }
+    if found { Err(refused(code, e)) } else { Ok(()) }
+}
+
+// An event of no ticks that goes on to B. "While ENSPCHK is 0, SCSIPERR is held at 0".
+fn done(m: &mut Image, value: u16) -> Acted
+    requires { IsImage m.old }
+    ensures m_after { m.new ≡ image_of (kept (state_at m.old)) }
+    ensures value { result ≡ done_with value 0 }
+{
+    status_kept_in(m, false, false);
+    Ok(Effect { value, ticks: 0 })
 }

@@ -7,10 +7,9 @@ ghost use Rattle.image.specs.Image.{IsImage, state_at};
 ghost use Rattle.effects.specs.Acting.{Acts};
 ghost use Rattle.effects.specs.CodeBy.{shut_to};
 
-use crate::{Acted, done_with, refused};
+use crate::{Acted, check, done};
 use datapath::host::{host_popped, host_pushed, word_pushed};
 use image::layout::{DMACNTRL0, HOST_BYTES, HOST_COUNT, Image};
-use interrupts::status::status_kept_in;
 use reads::values::oldest_word;
 use rules::codes::Code;
 use rules::records::Event;
@@ -31,27 +30,14 @@ pub fn byte_written(m: &mut Image, value: u8) -> Acted
     requires { IsImage m.old }
     ensures { Acts (state_at m.old) (Write (offset_of DMADATA) value) m.new result }
 {
-    if shut_to(m, false, false) {
-        return refused(
-            Code::Shut,
-            Event::Write {
-                offset: 0x16,
-                value: value,
-            },
-        );
-    }
-    if m[HOST_COUNT] >= 128 {
-        return refused(
-            Code::NoRoom,
-            Event::Write {
-                offset: 0x16,
-                value: value,
-            },
-        );
-    }
+    let e = Event::Write {
+        offset: 0x16,
+        value,
+    };
+    check(shut_to(m, false, false), Code::Shut, e)?;
+    check(m[HOST_COUNT] >= 128, Code::NoRoom, e)?;
     host_pushed(m, value);
-    status_kept_in(m, false, false);
-    done_with(0, 0)
+    done(m, 0)
 }
 
 // The oldest byte is given and taken off.
@@ -59,16 +45,12 @@ pub fn byte_read(m: &mut Image) -> Acted
     requires { IsImage m.old }
     ensures { Acts (state_at m.old) (Read 0x16) m.new result }
 {
-    if shut_to(m, false, true) {
-        return refused(Code::Shut, Event::Read { offset: 0x16 });
-    }
-    if m[HOST_COUNT] < 1 {
-        return refused(Code::NoBytes, Event::Read { offset: 0x16 });
-    }
+    let e = Event::Read { offset: 0x16 };
+    check(shut_to(m, false, true), Code::Shut, e)?;
+    check(m[HOST_COUNT] < 1, Code::NoBytes, e)?;
     let value = m[HOST_BYTES];
     host_popped(m, 1);
-    status_kept_in(m, false, false);
-    done_with(value as u16, 0)
+    done(m, u16::from(value))
 }
 
 // "A word's low byte comes first."
@@ -76,15 +58,11 @@ pub fn word_written(m: &mut Image, word: u16) -> Acted
     requires { IsImage m.old }
     ensures { Acts (state_at m.old) (WordWrite word) m.new result }
 {
-    if shut_to(m, true, false) {
-        return refused(Code::Shut, Event::WordWrite(word));
-    }
-    if m[HOST_COUNT] >= 127 {
-        return refused(Code::NoRoom, Event::WordWrite(word));
-    }
+    let e = Event::WordWrite(word);
+    check(shut_to(m, true, false), Code::Shut, e)?;
+    check(m[HOST_COUNT] >= 127, Code::NoRoom, e)?;
     word_pushed(m, word);
-    status_kept_in(m, false, false);
-    done_with(0, 0)
+    done(m, 0)
 }
 
 // The two oldest bytes are given and taken off.
@@ -92,14 +70,9 @@ pub fn word_read(m: &mut Image) -> Acted
     requires { IsImage m.old }
     ensures { Acts (state_at m.old) WordRead m.new result }
 {
-    if shut_to(m, true, true) {
-        return refused(Code::Shut, Event::WordRead);
-    }
-    if m[HOST_COUNT] < 2 {
-        return refused(Code::NoBytes, Event::WordRead);
-    }
+    check(shut_to(m, true, true), Code::Shut, Event::WordRead)?;
+    check(m[HOST_COUNT] < 2, Code::NoBytes, Event::WordRead)?;
     let value = oldest_word(m);
     host_popped(m, 2);
-    status_kept_in(m, false, false);
-    done_with(value, 0)
+    done(m, value)
 }

@@ -8,7 +8,7 @@ ghost use Rattle.image.specs.Image.{IsImage, image_of, state_at, registers_at, l
 ghost use Rattle.effects.specs.Acting.{Acts};
 ghost use Rattle.effects.specs.Writes.{ack_counted};
 
-use crate::{Acted, done_with};
+use crate::{Acted, Effect};
 use datapath::counts::acknowledged;
 use image::bits::spiordy;
 use image::bus::{automatic, data_seen, io_seen, matched, req_seen};
@@ -21,11 +21,7 @@ use writes::storing::stored;
 fn automatic_ack(m: &Image, accessed: bool) -> bool
     ensures { result ≡ (accessed && automatic (registers_at m.now) && matched (state_at m.now) && req_seen (state_at m.now)) }
 {
-    if accessed {
-        automatic(m) & matched(m) & req_seen(m)
-    } else {
-        false
-    }
+    accessed && automatic(m) && matched(m) && req_seen(m)
 }
 
 // An Automatic ACK "turns automatic ACK on, adds one to the counter".
@@ -48,7 +44,7 @@ pub fn latch_filled(m: &mut Image, value: u8) -> Acted
     ack_by(m, acked);
     stored(m, Register::SCSIDAT, value);
     status_kept_in(m, accessed, acked);
-    done_with(0, 0)
+    Ok(Effect { value: 0, ticks: 0 })
 }
 
 // "An access to 346h (a write with IO not seen, a read with IO seen) with SPIORDY clears it"
@@ -58,8 +54,8 @@ pub fn latch_read(m: &mut Image) -> Acted
 {
     let accessed = io_seen(m) & spiordy(m);
     let acked = automatic_ack(m, accessed);
-    let value = data_seen(m) as u16;
+    let value = u16::from(data_seen(m));
     ack_by(m, acked);
     status_kept_in(m, accessed, acked);
-    done_with(value, 0)
+    Ok(Effect { value, ticks: 0 })
 }

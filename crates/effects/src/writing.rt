@@ -1,7 +1,7 @@
 // A register write, by what stands at its offset.
-ghost use Rattle.std.specs.Prelude.{◌≡◌};
+ghost use Rattle.std.specs.Prelude.{◌≡◌, ◌+◌, ◌<◌};
 ghost use Rattle.rules.specs.Map.{offset_of};
-ghost use Rattle.rules.specs.declared.map.Register.TheVariants.{SXFRCTL0, STCNT0, STCNT1, STCNT2, SCSITEST, DMACNTRL0, DMACNTRL1, STACK, TEST};
+ghost use Rattle.rules.specs.declared.map.Register.TheVariants.{SXFRCTL0, STCNT0, SCSITEST, DMACNTRL0, DMACNTRL1, STACK, TEST};
 ghost use Rattle.rules.specs.declared.records.Event.TheVariants.{Write};
 ghost use Rattle.image.specs.Image.{IsImage, image_of, state_at};
 ghost use Rattle.writes.specs.WrittenRegister.{Written};
@@ -11,14 +11,13 @@ ghost use Rattle.effects.specs.Writes.{Plain, Selects, channel_cleared, counter_
 use crate::clearing::{errors_cleared, interrupts_cleared, ready_cleared};
 use crate::porting::byte_written;
 use crate::scsidat::latch_filled;
-use crate::{Acted, absent, done_with, refused};
-use datapath::counts::{counter_zeroed, high_written, low_written, middle_written};
+use crate::{Acted, absent, check, done};
+use datapath::counts::{counter_byte_written, counter_zeroed};
 use datapath::host::host_emptied;
 use datapath::scsi::channel_cleared;
 use image::layout::Image;
-use interrupts::status::status_kept_in;
 use rules::codes::Code;
-use rules::map::{Mapped, Register};
+use rules::map::Register;
 use rules::records::Event;
 use writes::selecting::sequencer_written_in;
 use writes::stacking::{pointed, pushed};
@@ -31,8 +30,7 @@ fn plain_written(m: &mut Image, register: Register, value: u8) -> Acted
     ensures { Acts (state_at m.old) (Write (offset_of register) value) m.new result }
 {
     stored(m, register, value);
-    status_kept_in(m, false, false);
-    done_with(0, 0)
+    done(m, 0)
 }
 
 // R-1: 340h, 350h and 351h. The sequencer comes first, since a latch looks at the enables before the write.
@@ -43,41 +41,20 @@ fn selection_written(m: &mut Image, register: Register, value: u8) -> Acted
 {
     sequencer_written_in(m, register, value);
     stored(m, register, value);
-    status_kept_in(m, false, false);
-    done_with(0, 0)
+    done(m, 0)
 }
 
-// 348h: "The counter writes as 24 bits, 348h lowest".
-fn low_counter(m: &mut Image, value: u8) -> Acted
-    requires { IsImage m.old }
-    ensures { Acts (state_at m.old) (Write (offset_of STCNT0) value) m.new result }
+// 348h to 34Ah: "The counter writes as 24 bits, 348h lowest"; its byte k, from the lowest.
+fn counter_written(m: &mut Image, k: usize, value: u8) -> Acted
+    requires image { IsImage m.old }
+    requires k_bound { k < 3 }
+    ensures { Acts (state_at m.old) (Write (offset_of STCNT0 + k) value) m.new result }
 {
-    low_written(m, value);
-    status_kept_in(m, false, false);
-    done_with(0, 0)
+    counter_byte_written(m, k, value);
+    done(m, 0)
 }
 
-// 349h, the middle byte.
-fn middle_counter(m: &mut Image, value: u8) -> Acted
-    requires { IsImage m.old }
-    ensures { Acts (state_at m.old) (Write (offset_of STCNT1) value) m.new result }
-{
-    middle_written(m, value);
-    status_kept_in(m, false, false);
-    done_with(0, 0)
-}
-
-// 34Ah, the highest.
-fn high_counter(m: &mut Image, value: u8) -> Acted
-    requires { IsImage m.old }
-    ensures { Acts (state_at m.old) (Write (offset_of STCNT2) value) m.new result }
-{
-    high_written(m, value);
-    status_kept_in(m, false, false);
-    done_with(0, 0)
-}
-
-// "CLRCH empties the SCSI FIFO and zeroes the offset"
+// "CLRCH empties the SCSI FIFO and zeroes the offset". One function for each bit that clears: each contract names another part of the state.
 fn channel_by(m: &mut Image, value: u8)
     requires { IsImage m.old }
     ensures { m.new ≡ image_of (channel_cleared (state_at m.old) value) }
@@ -107,8 +84,7 @@ fn transfer_control(m: &mut Image, value: u8) -> Acted
     channel_by(m, value);
     counter_by(m, value);
     stored(m, Register::SXFRCTL0, value);
-    status_kept_in(m, false, false);
-    done_with(0, 0)
+    done(m, 0)
 }
 
 // "RSTFIFO empties the host FIFO"
@@ -129,8 +105,7 @@ fn dma_control(m: &mut Image, value: u8) -> Acted
 {
     host_by(m, value);
     stored(m, Register::DMACNTRL0, value);
-    status_kept_in(m, false, false);
-    done_with(0, 0)
+    done(m, 0)
 }
 
 // 353h: "PWRDWN 7, ENSTK32 6, pointer 4-0." The pointer stands with the stack.
@@ -140,8 +115,7 @@ fn stack_control(m: &mut Image, value: u8) -> Acted
 {
     pointed(m, value);
     stored(m, Register::DMACNTRL1, value);
-    status_kept_in(m, false, false);
-    done_with(0, 0)
+    done(m, 0)
 }
 
 // 35Dh: "uses the place the pointer names, then the pointer goes up one".
@@ -150,8 +124,7 @@ fn stack_pushed(m: &mut Image, value: u8) -> Acted
     ensures { Acts (state_at m.old) (Write (offset_of STACK) value) m.new result }
 {
     pushed(m, value);
-    status_kept_in(m, false, false);
-    done_with(0, 0)
+    done(m, 0)
 }
 
 // 34Eh and 35Eh take 0 only.
@@ -159,17 +132,12 @@ fn test_written(m: &mut Image, value: u8) -> Acted
     requires { IsImage m.old }
     ensures { (Acts (state_at m.old) (Write (offset_of SCSITEST) value) m.new result) × (Acts (state_at m.old) (Write (offset_of TEST) value) m.new result) }
 {
-    if value == 0 {
-        status_kept_in(m, false, false);
-        return done_with(0, 0);
-    }
-    refused(
-        Code::TestValue,
-        Event::Write {
-            offset: 0x0E,
-            value: value,
-        },
-    )
+    let e = Event::Write {
+        offset: 0x0E,
+        value,
+    };
+    check(value != 0, Code::TestValue, e)?;
+    done(m, 0)
 }
 
 // What a write finds: one arm for each register that can be written.
@@ -186,9 +154,9 @@ fn write_found(m: &mut Image, register: Register, value: u8) -> Acted
         Register::SCSIRATE => plain_written(m, Register::SCSIRATE, value),
         Register::SCSIID => plain_written(m, Register::SCSIID, value),
         Register::SCSIDAT => latch_filled(m, value),
-        Register::STCNT0 => low_counter(m, value),
-        Register::STCNT1 => middle_counter(m, value),
-        Register::STCNT2 => high_counter(m, value),
+        Register::STCNT0 => counter_written(m, 0, value),
+        Register::STCNT1 => counter_written(m, 1, value),
+        Register::STCNT2 => counter_written(m, 2, value),
         Register::CLRSINT0 => ready_cleared(m, value),
         Register::CLRSINT1 => interrupts_cleared(m, value),
         Register::SCSITEST => test_written(m, value),
@@ -201,10 +169,7 @@ fn write_found(m: &mut Image, register: Register, value: u8) -> Acted
         Register::BRSTCNTRL => plain_written(m, Register::BRSTCNTRL, value),
         Register::STACK => stack_pushed(m, value),
         Register::TEST => test_written(m, value),
-        _ => absent(Event::Write {
-            offset: 0,
-            value: value,
-        }),
+        _ => unreachable!(),
     }
 }
 
@@ -213,12 +178,8 @@ pub fn write_in(m: &mut Image, offset: u8, value: u8) -> Acted
     requires { IsImage m.old }
     ensures { Acts (state_at m.old) (Write offset value) m.new result }
 {
-    let found = map::register_at(offset, true);
-    match found {
-        Mapped::Present(register) => write_found(m, register, value),
-        Mapped::Missing => absent(Event::Write {
-            offset: offset,
-            value: value,
-        }),
+    match map::register_at(offset, true) {
+        Some(register) => write_found(m, register, value),
+        None => Err(absent(Event::Write { offset, value })),
     }
 }

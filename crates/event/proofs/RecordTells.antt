@@ -1,4 +1,5 @@
 -- What the record of a line event, or of ticks, tells.
+use Rattle.std.specs.Prelude.{Option, Some, None}
 use Prim.Native.Nat.{ℕ, zero, suc, ◌/◌, ◌%◌}
 use mathlib.Core.Path.{◌≡◌, refl, subst}
 use mathlib.Core.List.{List}
@@ -9,22 +10,20 @@ use Rattle.rules.specs.Records.{lines_of, payload_of, event_of, well_formed, fie
 use Rattle.rules.specs.Ranges.{DecodedFits}
 use Rattle.rules.specs.declared.records.Event.{Event}
 use Rattle.rules.specs.declared.records.Event.TheVariants.{PowerReset, Write, Read, WordWrite, WordRead, Drive, Ticks}
-use Rattle.rules.specs.declared.records.Decoded.{Decoded}
-use Rattle.rules.specs.declared.records.Decoded.TheVariants.{Well, Ill}
 use Rattle.rules.specs.declared.records.Lines.{Lines}
 use Rattle.rules.proofs.Logic.{cond_case}
 use Rattle.rules.proofs.Ranges.{decode_fits}
 
 -- the lines are those of the payload
-abbrev Taken : ℕ → Decoded → Type 0
-Taken p (Well PowerReset) = Unit {0}
-Taken p (Well (Write o v)) = Unit {0}
-Taken p (Well (Read o)) = Unit {0}
-Taken p (Well (WordWrite w)) = Unit {0}
-Taken p (Well WordRead) = Unit {0}
-Taken p (Well (Drive l)) = lines_of p ≡ l
-Taken p (Well (Ticks n)) = Unit {0}
-Taken p Ill = Unit {0}
+abbrev Taken : ℕ → Option Event → Type 0
+Taken p (Some PowerReset) = Unit {0}
+Taken p (Some (Write o v)) = Unit {0}
+Taken p (Some (Read o)) = Unit {0}
+Taken p (Some (WordWrite w)) = Unit {0}
+Taken p (Some WordRead) = Unit {0}
+Taken p (Some (Drive l)) = lines_of p ≡ l
+Taken p (Some (Ticks n)) = Unit {0}
+Taken p None = Unit {0}
 
 event_taken : (kind offset p : ℕ) → Taken p (event_of kind offset p)
 event_taken zero offset p = tt
@@ -37,13 +36,13 @@ event_taken (suc (suc (suc (suc (suc (suc zero)))))) offset p = tt
 event_taken (suc (suc (suc (suc (suc (suc (suc k))))))) offset p = tt
 
 -- a record that is well formed has four bytes
-abbrev Whole : ℕ → Decoded → Type 0
-Whole n (Well e) = n ≡ 4
-Whole n Ill = Unit {0}
+abbrev Whole : ℕ → Option Event → Type 0
+Whole n (Some e) = n ≡ 4
+Whole n None = Unit {0}
 
-whole : (n : ℕ) (d : Decoded) → n ≡ 4 → Whole n d
-whole n (Well e) h = h
-whole n Ill h = tt
+whole : (n : ℕ) (d : Option Event) → n ≡ 4 → Whole n d
+whole n (Some e) h = h
+whole n None h = tt
 
 module _ (l : List ℕ) where
   abbrev pub payload : ℕ
@@ -57,24 +56,24 @@ module _ (l : List ℕ) where
 
   fields_taken : Taken payload (fields_of kind offset payload)
   unfolding fields_of
-  fields_taken = cond_case (Taken payload) (well_formed kind offset payload) (event_of kind offset payload) Ill (λ k. event_taken kind offset payload) (λ k. tt)
+  fields_taken = cond_case (Taken payload) (well_formed kind offset payload) (event_of kind offset payload) None (λ k. event_taken kind offset payload) (λ k. tt)
 
   decode_taken : Taken payload (decode l)
   unfolding decode
-  decode_taken = cond_case (Taken payload) (eqb (length l) 4) (fields_of kind offset payload) Ill (λ h. fields_taken) (λ h. tt)
+  decode_taken = cond_case (Taken payload) (eqb (length l) 4) (fields_of kind offset payload) None (λ h. fields_taken) (λ h. tt)
 
   decode_whole : Whole (length l) (decode l)
   unfolding decode
   decode_whole =
-      cond_case (Whole (length l)) (eqb (length l) 4) (fields_of kind offset payload) Ill
+      cond_case (Whole (length l)) (eqb (length l) 4) (fields_of kind offset payload) None
       (λ h. whole (length l) (fields_of kind offset payload) (eqb-true (length l) 4 h)) (λ h. tt)
 
-  module _ {e : Event} (d : decode l ≡ Well e) where
+  module _ {e : Event} (d : decode l ≡ Some e) where
     pub four : length l ≡ 4
     four = subst (Whole (length l)) d decode_whole
 
-    pub event_fits : DecodedFits (Well e)
+    pub event_fits : DecodedFits (Some e)
     event_fits = subst DecodedFits d (decode_fits l)
 
-  pub lines_taken : {x : Lines} → decode l ≡ Well (Drive x) → lines_of payload ≡ x
+  pub lines_taken : {x : Lines} → decode l ≡ Some (Drive x) → lines_of payload ≡ x
   lines_taken d = subst (Taken payload) d decode_taken

@@ -1,12 +1,11 @@
 -- From what A left: the answer is ready, or B, C and D are to come.
+use Rattle.std.specs.Prelude.{Option, Some, None, Result, Ok, Err}
 use Prim.Native.Nat.{ℕ, zero, suc, ◌<◌, ◌≤◌, min}
 use native.Mathlib.Omega.{arith}
 use mathlib.Core.Path.{◌≡◌, refl, ap, sym, ◌∙◌}
-use mathlib.Core.Bool.{Bool, true, false, not}
+use mathlib.Core.Bool.{true, false}
 use mathlib.Core.List.{List}
 use Rattle.rules.specs.State.{State, power_reset}
-use Rattle.rules.specs.Seen.{rst_seen, req_seen, mismatched}
-use Rattle.rules.specs.Registers.{simode0_of, simode1_of}
 use Rattle.rules.specs.Codes.{access_code, is_done, refused_value}
 use Rattle.rules.specs.Ranges.{InRange, InBytes, EventFits, DecodedFits}
 use Rattle.rules.specs.Step.{ended, refused, done, access, joined, single_ticks, ticks_taken, step_event, step_decoded}
@@ -15,8 +14,6 @@ use Rattle.rules.specs.declared.codes.Code.{Code}
 use Rattle.rules.specs.declared.codes.Code.TheVariants.{Done, Malformed}
 use Rattle.rules.specs.declared.records.Event.{Event}
 use Rattle.rules.specs.declared.records.Event.TheVariants.{PowerReset, Write, Read, WordWrite, WordRead, Drive, Ticks}
-use Rattle.rules.specs.declared.records.Decoded.{Decoded}
-use Rattle.rules.specs.declared.records.Decoded.TheVariants.{Well, Ill}
 use Rattle.rules.specs.Events.{writes, reads, value_of, ticks_of, lines_after, offered, asked, port_write}
 use Rattle.rules.specs.Reads.{value_read}
 use Rattle.rules.specs.StepA.{clears, clears_latch, clears_error, clrstcnt, clrch, rstfifo, latch_access, automatic_ack, registers_a, host_a, counter_a, transfer_a, error_a, status_a, latches_a, stack_a, identity_a, gives_up, selection_a, noted_a, selection_latches_a, sequencer_a, after_a}
@@ -29,21 +26,14 @@ use Rattle.event.proofs.Ticking.{one_tick}
 use Rattle.effects.proofs.DoneCode.{code_done}
 use Rattle.fifos.specs.Fifos.{sent_of}
 use Rattle.image.specs.Image.{image_of}
-use Rattle.effects.specs.declared.Acted.{Acted}
+use Rattle.effects.specs.declared.Effect.{Effect}
+use Rattle.effects.specs.declared.Ended.{Ended}
 use Rattle.effects.specs.Acting.{Acts}
-use Rattle.edges.specs.declared.last.Seen.{Seen}
-use Rattle.edges.specs.Since.{rst_of, req_of, mismatched_of}
+use Rattle.effects.proofs.Endings.{went_on, was_refused}
+use Rattle.event.specs.declared.before.Before.{Before}
 use Rattle.event.specs.declared.stepping.Outcome.{Outcome}
 use Rattle.event.specs.Outcomes.{Leaves, ended_as}
-use Rattle.event.specs.Opening.{Ends, OpensEvent, Opens, Ready}
-
-not_true : (b : Bool) {a : Bool} → a ≡ not b → a ≡ true → b ≡ false
-not_true true p q = sym q ∙ p
-not_true false p q = refl
-
-not_false : (b : Bool) {a : Bool} → a ≡ not b → a ≡ false → b ≡ true
-not_false true p q = refl
-not_false false p q = sym q ∙ p
+use Rattle.event.specs.Opening.{Ends, OpensEvent, Opens, Recalls, Ready}
 
 access_done : (s : State) (e : Event) → is_done (access_code s e) ≡ true → done s e ≡ access s e
 unfolding access
@@ -69,40 +59,40 @@ leaves_as p l =
       sent = l.sent ∙ ap (λ (x : Stepped). sent_of x.sent) p;
     }
 
-module _ (s : State) (i : InRange s) {m : List ℕ} (a : Acted) where
-  ends_leaves : (t : State) (code : Code) (value : ℕ) → Ends t code value m a → Leaves (refused t code value) m (ended_as a.code a.value)
-  ends_leaves t code value x = refused_leaves t x.image (ap (λ (y : Acted). y.code) x.acted) (ap (λ (y : Acted). y.value) x.acted)
+module _ (s : State) (i : InRange s) {m : List ℕ} (x : Ended) where
+  ends_leaves : (t : State) (code : Code) (value : ℕ) → Ends t code value m (Err x) → Leaves (refused t code value) m (ended_as x.code x.value)
+  ends_leaves t code value a = refused_leaves t a.image (cc a.acted) (cc a.acted)
 
-  acts_leaves : (e : Event) → Acts s e m a → a.ends ≡ true → Leaves (access s e) m (ended_as a.code a.value)
-  acts_leaves e x h =
-      let f : is_done (access_code s e) ≡ false = not_true (is_done (access_code s e)) x.ends h in
-      leaves_as (access_refused s e f) (refused_leaves s (rw f at x.image) x.code (rw f at x.value))
+  acts_leaves : (e : Event) → Acts s e m (Err x) → Leaves (access s e) m (ended_as x.code x.value)
+  acts_leaves e a =
+      let f = was_refused s e a in
+      leaves_as (access_refused s e f.0) (refused_leaves s (rw f.0 at a.image) (ap (λ (y : Ended). y.code) f.1) (ap (λ (y : Ended). y.value) f.1))
 
   -- ticks are never refused
-  ticks_leaves : (n : ℕ) → Acts s (Ticks n) m a → a.ends ≡ true → Leaves (ticks_taken n s) m (ended_as a.code a.value)
+  ticks_leaves : (n : ℕ) → Acts s (Ticks n) m (Err x) → Leaves (ticks_taken n s) m (ended_as x.code x.value)
   unfolding ticks_taken
-  ticks_leaves zero x h = acts_leaves (Ticks 0) x h
-  ticks_leaves (suc n) x h =
-      absurd (never (sym (not_true (is_done (access_code s (Ticks (suc n)))) x.ends h) ∙ ap is_done (ticks_done s (suc n) i.transfer.host)))
+  ticks_leaves zero a = acts_leaves (Ticks 0) a
+  ticks_leaves (suc n) a =
+      absurd (never (sym (was_refused s (Ticks (suc n)) a).0 ∙ ap is_done (ticks_done s (suc n) i.transfer.host)))
 
-  event_leaves : (e : Event) → OpensEvent s e m a → a.ends ≡ true → Leaves (step_event s e) m (ended_as a.code a.value)
+  event_leaves : (e : Event) → OpensEvent s e m (Err x) → Leaves (step_event s e) m (ended_as x.code x.value)
   unfolding step_event
-  event_leaves PowerReset x h = ends_leaves power_reset Done 0 x
-  event_leaves (Write o v) x h = acts_leaves (Write o v) x h
-  event_leaves (Read o) x h = acts_leaves (Read o) x h
-  event_leaves (WordWrite w) x h = acts_leaves (WordWrite w) x h
-  event_leaves WordRead x h = acts_leaves WordRead x h
-  event_leaves (Drive l) x h = acts_leaves (Drive l) x h
-  event_leaves (Ticks n) x h = ticks_leaves n x h
+  event_leaves PowerReset a = ends_leaves power_reset Done 0 a
+  event_leaves (Write o v) a = acts_leaves (Write o v) a
+  event_leaves (Read o) a = acts_leaves (Read o) a
+  event_leaves (WordWrite w) a = acts_leaves (WordWrite w) a
+  event_leaves WordRead a = acts_leaves WordRead a
+  event_leaves (Drive l) a = acts_leaves (Drive l) a
+  event_leaves (Ticks n) a = ticks_leaves n a
 
-  pub opens_leaves : (d : Decoded) → Opens s d m a → a.ends ≡ true → Leaves (step_decoded s d) m (ended_as a.code a.value)
+  pub opens_leaves : (d : Option Event) → Opens s d m (Err x) → Leaves (step_decoded s d) m (ended_as x.code x.value)
   unfolding step_decoded
-  opens_leaves (Well e) x h = event_leaves e x h
-  opens_leaves Ill x h = ends_leaves s Malformed 0 x
+  opens_leaves (Some e) a = event_leaves e a
+  opens_leaves None a = ends_leaves s Malformed 0 a
 
 -- what B, C and D take up, of the first tick where there are several; and that with the ticks after it they give the step
-pub record Onward (y : Stepped) (m : List ℕ) (x : Seen) (before0 before1 ticks value : ℕ) : Type 0 where
-  pub ready : Ready m x before0 before1 (min ticks 1) value
+pub record Onward (y : Stepped) (m : List ℕ) (before : Before) (ticks value : ℕ) : Type 0 where
+  pub ready : Ready m before (min ticks 1) value
   pub few : ticks < 2 → done ready.state ready.event ≡ y
   pub many : (k : ℕ) → ticks ≡ suc (suc k) → joined (done ready.state ready.event) (single_ticks (suc k) (done ready.state ready.event).state) ≡ y
   pub plain : 2 ≤ ticks → (value ≡ 0) × ((done ready.state ready.event).code ≡ Done) × ((done ready.state ready.event).value ≡ 0)
@@ -126,38 +116,37 @@ a_ticks : (s : State) (n : ℕ) → after_a s (Ticks n) ≡ after_a s (Ticks 1)
 unfolding after_a lines_after registers_a transfer_a host_a counter_a status_a error_a latches_a stack_a identity_a sequencer_a gives_up selection_a noted_a selection_latches_a automatic_ack latch_access clrstcnt clrch rstfifo clears clears_latch clears_error writes reads value_of offered asked port_write
 a_ticks s n = refl
 
-module _ (s : State) (i : InRange s) (j : InBytes s) {m : List ℕ} (a : Acted) {seen : Seen} {before0 before1 : ℕ} (p : rst_of seen ≡ rst_seen s) (q : req_of seen ≡ req_seen s) (r : mismatched_of seen ≡ mismatched s) (y : simode0_of before0 ≡ s.registers.simode0) (z : simode1_of before1 ≡ s.registers.simode1) where
-  acts_onward : (e : Event) → EventFits e → ticks_of e ≡ 0 → Acts s e m a → a.ends ≡ false → Onward (access s e) m seen before0 before1 a.ticks a.value
-  acts_onward e f none x h =
-      let t : is_done (access_code s e) ≡ true = not_false (is_done (access_code s e)) x.ends h in
+module _ (s : State) (i : InRange s) (j : InBytes s) {m : List ℕ} (x : Effect) {before : Before} (r : Recalls s before) where
+  acts_onward : (e : Event) → EventFits e → ticks_of e ≡ 0 → Acts s e m (Ok x) → Onward (access s e) m before x.ticks x.value
+  acts_onward e f none a =
+      let t = went_on s e a in
+      let ticks : x.ticks ≡ ticks_of e = ap (λ (y : Effect). y.ticks) t.1 in
       record {
         ready =
             record {
               state = s;
               event = e;
               fits = f;
-              done = code_done (access_code s e) t;
+              done = code_done (access_code s e) t.0;
               range = i;
               bytes = j;
-              made = rw t at x.image;
-              rst = p;
-              req = q;
-              mismatched = r;
-              simode0 = y;
-              simode1 = z;
-              ticks = omega (arith, x.ticks, none);
-              value = rw t at x.value;
+              made = rw t.0 at a.image;
+              recalls = r;
+              ticks = omega (arith, ticks, none);
+              value = ap (λ (y : Effect). y.value) t.1;
             };
-        few = λ l. access_done s e t;
-        many = λ k l. absurd (omega (arith, x.ticks, none, l));
-        plain = λ l. absurd (omega (arith, x.ticks, none, l));
+        few = λ l. access_done s e t.0;
+        many = λ k l. absurd (omega (arith, ticks, none, l));
+        plain = λ l. absurd (omega (arith, ticks, none, l));
       }
 
-  ticks_onward : (n : ℕ) → EventFits (Ticks n) → Acts s (Ticks n) m a → a.ends ≡ false → Onward (ticks_taken n s) m seen before0 before1 a.ticks a.value
+  ticks_onward : (n : ℕ) → EventFits (Ticks n) → Acts s (Ticks n) m (Ok x) → Onward (ticks_taken n s) m before x.ticks x.value
   unfolding ticks_taken ticks_of value_read
-  ticks_onward zero f x h = acts_onward (Ticks 0) f refl x h
-  ticks_onward (suc n) f x h =
-      let t : is_done (access_code s (Ticks (suc n))) ≡ true = not_false (is_done (access_code s (Ticks (suc n)))) x.ends h in
+  ticks_onward zero f a = acts_onward (Ticks 0) f refl a
+  ticks_onward (suc n) f a =
+      let t = went_on s (Ticks (suc n)) a in
+      let ticks : x.ticks ≡ suc n = ap (λ (y : Effect). y.ticks) t.1 in
+      let value : x.value ≡ 0 = ap (λ (y : Effect). y.value) t.1 in
       record {
         ready =
             record {
@@ -167,37 +156,33 @@ module _ (s : State) (i : InRange s) (j : InBytes s) {m : List ℕ} (a : Acted) 
               done = ticks_done s 1 i.transfer.host;
               range = i;
               bytes = j;
-              made = (rw t at x.image) ∙ ap image_of (a_ticks s (suc n));
-              rst = p;
-              req = q;
-              mismatched = r;
-              simode0 = y;
-              simode1 = z;
-              ticks = omega (arith, x.ticks);
-              value = rw t at x.value;
+              made = (rw t.0 at a.image) ∙ ap image_of (a_ticks s (suc n));
+              recalls = r;
+              ticks = omega (arith, ticks);
+              value = value;
             };
-        few = λ l. only_one s i n (omega (arith, x.ticks, l));
-        many = λ k l. after_one s i n k (omega (arith, x.ticks, l));
-        plain = λ l. (rw t at x.value, ap (λ (z : Stepped). z.code) (tick_done s i ∙ tick_plain s i), ap (λ (z : Stepped). z.value) (tick_done s i ∙ tick_plain s i));
+        few = λ l. only_one s i n (omega (arith, ticks, l));
+        many = λ k l. after_one s i n k (omega (arith, ticks, l));
+        plain = λ l. (value, ap (λ (z : Stepped). z.code) (tick_done s i ∙ tick_plain s i), ap (λ (z : Stepped). z.value) (tick_done s i ∙ tick_plain s i));
       }
 
-  never_ended : (t : State) (code : Code) (value : ℕ) {x : Stepped} → Ends t code value m a → a.ends ≡ false → Onward x m seen before0 before1 a.ticks a.value
-  never_ended t code value x h = absurd (never (sym h ∙ ap (λ (y : Acted). y.ends) x.acted))
+  never_ended : (t : State) (code : Code) (value : ℕ) {y : Stepped} → Ends t code value m (Ok x) → Onward y m before x.ticks x.value
+  never_ended t code value a = absurd (cc a.acted)
 
-  event_onward : (e : Event) → EventFits e → OpensEvent s e m a → a.ends ≡ false → Onward (step_event s e) m seen before0 before1 a.ticks a.value
+  event_onward : (e : Event) → EventFits e → OpensEvent s e m (Ok x) → Onward (step_event s e) m before x.ticks x.value
   unfolding step_event ticks_of
-  event_onward PowerReset f x h = never_ended power_reset Done 0 x h
-  event_onward (Write o v) f x h = acts_onward (Write o v) f refl x h
-  event_onward (Read o) f x h = acts_onward (Read o) f refl x h
-  event_onward (WordWrite w) f x h = acts_onward (WordWrite w) f refl x h
-  event_onward WordRead f x h = acts_onward WordRead f refl x h
-  event_onward (Drive l) f x h = acts_onward (Drive l) f refl x h
-  event_onward (Ticks n) f x h = ticks_onward n f x h
+  event_onward PowerReset f a = never_ended power_reset Done 0 a
+  event_onward (Write o v) f a = acts_onward (Write o v) f refl a
+  event_onward (Read o) f a = acts_onward (Read o) f refl a
+  event_onward (WordWrite w) f a = acts_onward (WordWrite w) f refl a
+  event_onward WordRead f a = acts_onward WordRead f refl a
+  event_onward (Drive l) f a = acts_onward (Drive l) f refl a
+  event_onward (Ticks n) f a = ticks_onward n f a
 
-  pub opens_onward : (d : Decoded) → DecodedFits d → Opens s d m a → a.ends ≡ false → Onward (step_decoded s d) m seen before0 before1 a.ticks a.value
+  pub opens_onward : (d : Option Event) → DecodedFits d → Opens s d m (Ok x) → Onward (step_decoded s d) m before x.ticks x.value
   unfolding step_decoded
-  opens_onward (Well e) f x h = event_onward e f x h
-  opens_onward Ill f x h = never_ended s Malformed 0 x h
+  opens_onward (Some e) f a = event_onward e f a
+  opens_onward None f a = never_ended s Malformed 0 a
 
 -- what B, C and D take up of a tick
 pub tick_counts : ticks_of (Ticks 1) ≡ 1
@@ -208,8 +193,8 @@ pub tick_reads : (s : State) → value_read s (Ticks 1) ≡ 0
 unfolding value_read
 tick_reads s = refl
 
-abbrev pub tick_ready : (s : State) (i : InRange s) (j : InBytes s) {m : List ℕ} (a : Acted) {seen : Seen} {before0 before1 one value : ℕ} → rst_of seen ≡ rst_seen s → req_of seen ≡ req_seen s → mismatched_of seen ≡ mismatched s → simode0_of before0 ≡ s.registers.simode0 → simode1_of before1 ≡ s.registers.simode1 → Acts s (Ticks 1) m a → one ≡ 1 → value ≡ 0 → Ready m seen before0 before1 one value
-tick_ready s i j a p q r y z x e f =
+abbrev pub tick_ready : (s : State) (i : InRange s) (j : InBytes s) {m : List ℕ} (a : Result Effect Ended) {before : Before} {one value : ℕ} → Recalls s before → Acts s (Ticks 1) m a → one ≡ 1 → value ≡ 0 → Ready m before one value
+tick_ready s i j a r x e f =
     let d = ticks_done s 1 i.transfer.host in
     let t : is_done (access_code s (Ticks 1)) ≡ true = ap is_done d in
     record {
@@ -220,17 +205,13 @@ tick_ready s i j a p q r y z x e f =
       range = i;
       bytes = j;
       made = rw t at x.image;
-      rst = p;
-      req = q;
-      mismatched = r;
-      simode0 = y;
-      simode1 = z;
+      recalls = r;
       ticks = e ∙ sym tick_counts;
       value = f ∙ sym (tick_reads s);
     }
 
 -- with its number of ticks in another form
-abbrev pub at_ticks : {m : List ℕ} {x : Seen} {before0 before1 ticks value n : ℕ} → Ready m x before0 before1 ticks value → n ≡ ticks → Ready m x before0 before1 n value
+abbrev pub at_ticks : {m : List ℕ} {before : Before} {ticks value n : ℕ} → Ready m before ticks value → n ≡ ticks → Ready m before n value
 at_ticks w e =
     record {
       state = w.state;
@@ -240,11 +221,7 @@ at_ticks w e =
       range = w.range;
       bytes = w.bytes;
       made = w.made;
-      rst = w.rst;
-      req = w.req;
-      mismatched = w.mismatched;
-      simode0 = w.simode0;
-      simode1 = w.simode1;
+      recalls = w.recalls;
       ticks = e ∙ w.ticks;
       value = w.value;
     }
@@ -255,7 +232,7 @@ pub record Left (s : State) : Type 0 where
   pub bytes : InBytes s
   pub rests : AtRest s
 
-pub done_left : {m : List ℕ} {x : Seen} {before0 before1 ticks value : ℕ} (w : Ready m x before0 before1 ticks value) → Left (done w.state w.event).state
+pub done_left : {m : List ℕ} {before : Before} {ticks value : ℕ} (w : Ready m before ticks value) → Left (done w.state w.event).state
 unfolding done
 done_left w =
     let d = ap is_done w.done in

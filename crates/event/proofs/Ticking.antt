@@ -1,14 +1,15 @@
 -- Ticks after the first: what some of them leave and report, and what more of them then do.
+use Rattle.std.specs.Prelude.{Option, Some, None}
+use Rattle.std.specs.Option.{MatchOption, IsSomeAnd}
 use Prim.Native.Nat.{ℕ, suc, ◌+◌, ◌%◌, ◌<◌, ◌≤◌}
-use mathlib.Core.Bool.{Bool, true, false, cond, ◌&&◌}
+use mathlib.Core.Bool.{true, ◌&&◌}
 use mathlib.Core.Path.{◌≡◌, refl, ap, sym, subst, ◌∙◌}
 use mathlib.Core.List.{List, [], ◌∷◌, ◌++◌, append-nil}
 use native.Mathlib.Omega.{arith}
 use native.Mathlib.Nat.{add-zero}
-use lib.Dec.{eqb, ltb}
+use lib.Dec.{eqb}
 use lib.ListN.{length, length-append}
-use borrow.Author.Tests.{eqb-true, ltb-true}
-use Rattle.rules.specs.Ticks.{unreached}
+use borrow.Author.Tests.{eqb-true}
 use Rattle.rules.proofs.Logic.{left_true, right_true}
 use Rattle.rules.specs.State.{State}
 use Rattle.rules.specs.Answers.{Stepped}
@@ -26,7 +27,7 @@ use Rattle.rules.proofs.TickByTick.{ticks_code, steady, steady_more, joined_none
 use Rattle.image.specs.Image.{image_of, state_at, IsImage}
 use Rattle.effects.proofs.ImageOnward.{state_is, image_is}
 use Rattle.fifos.specs.Fifos.{sent_of, sent_view}
-use Rattle.fifos.specs.declared.sent.Sent.{Sent}
+use Rattle.rules.specs.declared.chip.Fifo.{Fifo}
 use Rattle.fifos.proofs.Behind.{view_of, tidy_of}
 use Rattle.settling.specs.declared.Told.{Told}
 use Rattle.event.specs.declared.stepping.Outcome.{Outcome}
@@ -96,7 +97,7 @@ module _ {x y : Stepped} {m n : List ℕ} {a b : Told} (p : Totals x m a) (q : T
       }
 
   sizes : length (x.sent ++ y.sent) ≡ a.sent.count + b.sent.count
-  sizes = length-append x.sent y.sent ∙ (λ i. sym (ap (λ (s : Sent). s.count) p.sent) i + sym (ap (λ (s : Sent). s.count) q.sent) i)
+  sizes = length-append x.sent y.sent ∙ (λ i. sym (ap (λ (s : Fifo 8). s.count) p.sent) i + sym (ap (λ (s : Fifo 8). s.count) q.sent) i)
 
   pub sums_fit : x.moves + y.moves ≤ 255 → x.acks + y.acks ≤ 255 → length (x.sent ++ y.sent) ≤ 8 → Sums a.moves a.acks a.sent b
   sums_fit u v w =
@@ -152,7 +153,7 @@ nothing_told {x} {t = t} q code value none =
     let moves = eqb-true t.moves 0 (left_true (eqb t.moves 0) _ both) in
     let acks = eqb-true t.acks 0 (right_true (eqb t.moves 0) _ both) in
     let count = eqb-true t.sent.count 0 (right_true (eqb t.moves 0 && eqb t.acks 0) _ none) in
-    let sent : x.sent ≡ [] = empty x.sent (sym (ap (λ (y : Sent). y.count) q.sent) ∙ count) in
+    let sent : x.sent ≡ [] = empty x.sent (sym (ap (λ (y : Fifo 8). y.count) q.sent) ∙ count) in
     λ k.
     record {
       state = x.state;
@@ -184,13 +185,14 @@ led_round {copy} {m} i led e none same left =
     in
     sym (round left 72 (state_at m) (omega arith) still)
 
--- a number of ticks since the copy that is no more than a round says that there is a copy
-not_late_as : (a b c : ℕ) (t : Bool) → ltb a 72 ≡ t → c ≡ cond t b unreached → c ≤ 72 → (a < 72) × (c ≡ b)
-not_late_as a b c true p e h = (ltb-true a 72 p, e)
-not_late_as a b c false p e h = absurd (omega (arith, e, h))
+pub some_is : {A : Type 0} {a b : A} → Some a ≡ Some b → a ≡ b
+some_is e = cc
 
-pub not_late : (a b c : ℕ) → c ≡ cond (ltb a 72) b unreached → c ≤ 72 → (a < 72) × (c ≡ b)
-not_late a b c e h = not_late_as a b c (ltb a 72) refl e h
+-- what a map of an option that has something was made of
+pub mapped : (Q : ℕ → ℕ → Type 0) (since past : Option ℕ) → MatchOption since (past ≡ None) (λ x. IsSomeAnd past (Q x)) → (k : ℕ) → past ≡ Some k → (x : ℕ) × (since ≡ Some x) × Q x k
+mapped Q None past h k e = absurd cc
+mapped Q (Some x) None h k e = absurd cc
+mapped Q (Some x) (Some y) h k e = (x, refl, subst (Q x) (some_is e) h)
 
 -- UP TO THE NEXT TICK THAT DOES MORE THAN COUNT
 module _ {m copy : List ℕ} (g : IsImage m) (r : AtRest (state_at m)) {left : ℕ} {lap : Lap} (w : Rounds m left copy lap) where
@@ -217,12 +219,11 @@ module _ {m copy : List ℕ} (g : IsImage m) (r : AtRest (state_at m)) {left : �
     counted_some l same =
         sym w.same ∙ ap (λ (x : ℕ). single_ticks x s) same ∙ steady_more k (suc l) s r g.range near ∙ ap (single_ticks (suc l)) (sym counted_state)
 
-    pub counted_marked : (a : ℕ) → lap.since < 72 → a ≡ lap.since + (k + 1) → Marked copy a (single_ticks 1 (state_at n))
+    pub counted_marked : (a d : ℕ) → lap.since ≡ Some d → a ≡ d + (k + 1) → Marked copy a (single_ticks 1 (state_at n))
     unfolding ended
-    counted_marked a h f =
-        let c = w.marked h in
+    counted_marked a d h f =
+        let c = w.marked d h in
         let u = state_at copy in
-        let d = lap.since in
         record {
           image = c.image;
           rests = c.rests;

@@ -6,7 +6,7 @@ ghost use Rattle.image.specs.Image.{IsImage, image_of, state_at, status_of};
 ghost use Rattle.event.specs.Closing.{raised_by, closed_by};
 
 use image::layout::{Image, STATUS};
-use interrupts::latches::latched_in;
+use interrupts::latches::{Enables, latched_in};
 use interrupts::status::{fallen_in, raised_in};
 
 // With a path the mode is Normal, and neither SPIORDY nor FWERR rises.
@@ -20,14 +20,14 @@ fn raised_without(m: &mut Image, way: bool)
     }
 }
 
-// before0 and before1 are 350h and 351h before the event, status the status byte after A; way tells whether there is a path.
-pub fn closed_in(m: &mut Image, before0: u8, before1: u8, status: u8, acks: u8, way: bool)
+// before has 350h and 351h before the event, status is the status byte after A; way tells whether there is a path.
+pub fn closed_in(m: &mut Image, before: Enables, status: u8, acks: u8, way: bool)
     requires image { IsImage m.old }
     requires way_value { way ≡ path (state_at m.old).registers }
-    ensures { m.new ≡ image_of (closed_by (simode0_of before0) (simode1_of before1) (status_of status) acks (state_at m.old)) }
+    ensures { m.new ≡ image_of (closed_by (simode0_of before.simode0) (simode1_of before.simode1) (status_of status) acks (state_at m.old)) }
 {
     raised_without(m, way);
     let raised = m[STATUS];
     fallen_in(m, acks);
-    latched_in(m, before0, before1, status, raised);
+    latched_in(m, before, status, raised);
 }

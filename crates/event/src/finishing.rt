@@ -5,9 +5,9 @@ ghost use Rattle.rules.specs.declared.codes.Code.TheVariants.{Done, BeyondLimit}
 ghost use Rattle.event.specs.Outcomes.{Leaves};
 ghost use Rattle.event.specs.Opening.{Ready};
 
+use crate::before::Before;
 use crate::closing::closed_in;
 use crate::stepping::Outcome;
-use edges::last::Seen;
 use image::bus::path;
 use image::layout::{Image, STATUS};
 use rules::codes::Code;
@@ -25,30 +25,20 @@ fn code_of(beyond: bool) -> Code
     }
 }
 
-// before0 and before1 are 350h and 351h before the event.
-pub fn finished(
-    m: &mut Image,
-    seen: Seen,
-    before0: u8,
-    before1: u8,
-    ticks: u32,
-    value: u16,
-) -> Outcome
-    requires { Ready m.old seen before0 before1 ticks value }
-    ensures { (w : Ready m.old seen before0 before1 ticks value) → Leaves (done w.state w.event) m.new result }
+pub fn finished(m: &mut Image, before: Before, ticks: u32, value: u16) -> Outcome
+    requires { Ready m.old before ticks value }
+    ensures { (w : Ready m.old before ticks value) → Leaves (done w.state w.event) m.new result }
 {
     let status = m[STATUS];
-    let beyond = bus_in(m, seen, ticks);
+    let beyond = bus_in(m, before.seen, ticks);
     let way = path(m);
     let t = settle(m);
-    closed_in(m, before0, before1, status, t.acks, way);
-    let code = code_of(beyond);
-    let sent = t.sent;
+    closed_in(m, before.enables, status, t.acks, way);
     Outcome {
-        code: code,
-        value: value,
+        code: code_of(beyond),
+        value,
         moves: t.moves,
         acks: t.acks,
-        sent: sent,
+        sent: t.sent,
     }
 }

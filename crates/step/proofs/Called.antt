@@ -1,9 +1,8 @@
 -- The call with a lent buffer: sixteen bytes, or any other number.
 use mathlib.Core.Path.{◌≡◌, ap, ◌∙◌}
-use mathlib.Core.List.{List, ◌++◌, append-nil}
-use Prim.Native.Nat.{ℕ, ◌+◌, ◌≤◌}
-use native.Mathlib.Omega.{arith}
-use lib.ListN.{length, take, drop, drop_of_length-le}
+use mathlib.Core.List.{List}
+use Prim.Native.Nat.{ℕ}
+use lib.ListN.{length}
 use borrow.Author.Tests.{eq-eqb, ne_eqb}
 use Rattle.rules.specs.State.{State}
 use Rattle.rules.specs.Chips.{view, chip_of}
@@ -40,15 +39,10 @@ module _ (c : Chip) (t : Tidy c) {m : List ℕ} (k : Stored c m) (bytes : List �
   pub image_stepped : IsImage n
   image_stepped = image_is x.state g.image range in_bytes
 
-  module _ (before buffer : List ℕ) (h : length before ≡ 16) (w : buffer ≡ (take 0 before ++ r.answer) ++ drop (0 + 16) before) where
-    whole : buffer ≡ r.answer
-    whole =
-        let j : length before ≤ 0 + 16 = omega arith in
-        w ∙ rw (drop_of_length-le before j) (append-nil r.answer)
-
+  module _ (before buffer : List ℕ) (h : length before ≡ 16) (w : buffer ≡ r.answer) where
     answered : buffer ≡ answer (view c) bytes
     unfolding answer
-    answered = whole ∙ g.answer ∙ ap (λ (s : State). answer_bytes (answer_of (step s bytes))) stored_state
+    answered = w ∙ g.answer ∙ ap (λ (s : State). answer_bytes (answer_of (step s bytes))) stored_state
 
     -- a buffer of sixteen bytes: the step, and its answer
     pub sixteen : (d : Chip) → d ≡ chip_of (state_at n) → IsStep c bytes before buffer (record { chip = d; code = r.code })

@@ -8,7 +8,5 @@ pub fn store_at(b: [u8; ANSWER_SIZE], out: &mut [u8], at: usize)
     requires { at + 16 ≤ length out.old }
     ensures { out.new ≡ (take at out.old ++ b) ++ drop (at + 16) out.old }
 {
-    for i in 0..ANSWER_SIZE {
-        out[at + i] = b[i];
-    }
+    out[at..at + ANSWER_SIZE].copy_from_slice(&b);
 }

@@ -11,7 +11,6 @@ pub mod answers;
 pub mod reset;
 pub mod run;
 
-use crate::answers::store_at;
 use event::stepping::stepped;
 use rules::chip::Chip;
 use rules::codes::Code;
@@ -41,13 +40,10 @@ fn stepped_over(c: Chip, bytes: &[u8], answer: &mut [u8]) -> Returned
     chips::store(c, &mut m);
     let mut spare = [0u8; SIZE];
     let reply = stepped(&mut m, bytes, &mut spare);
-    let b = reply.answer;
-    store_at(b, answer, 0);
-    let chip = chips::load(&m);
-    let code = reply.code;
+    answer.copy_from_slice(&reply.answer);
     Returned {
-        chip: chip,
-        code: code,
+        chip: chips::load(&m),
+        code: reply.code,
     }
 }
 

@@ -8,7 +8,6 @@ use crate::answers::store_at;
 use crate::reset::tidied;
 use event::stepping::stepped;
 use image::layout::{Image, SIZE};
-use laws::smaller;
 use rules::chip::Chip;
 use rules::records::{ANSWER_SIZE, RECORD_SIZE};
 
@@ -20,10 +19,9 @@ fn record_answered(m: &mut Image, spare: &mut Image, records: &[u8], answers: &m
     ensures { IsRecordAnswered m.old records.now answers.old i m.new answers.new }
 {
     let from = RECORD_SIZE * i;
-    let end = from + smaller(RECORD_SIZE, records.len() - from);
+    let end = from + RECORD_SIZE.min(records.len() - from);
     let reply = stepped(m, &records[from..end], spare);
-    let b = reply.answer;
-    store_at(b, answers, ANSWER_SIZE * i);
+    store_at(reply.answer, answers, ANSWER_SIZE * i);
 }
 
 // As many records as there is room for whole answers, one after another on an image; their number.
@@ -31,11 +29,9 @@ pub fn answered(m: &mut Image, records: &[u8], answers: &mut [u8]) -> usize
     requires { IsImage m.old }
     ensures { IsRunOver m.old records.now answers.old m.new answers.new result }
 {
-    let n = smaller(
-        (records.len() + 3) / RECORD_SIZE,
-        answers.len() / ANSWER_SIZE,
-    );
+    let n = ((records.len() + 3) / RECORD_SIZE).min(answers.len() / ANSWER_SIZE);
     let mut spare = [0u8; SIZE];
+    // by index: of a slice that `chunks_exact_mut` lends, a proof knows the length afterwards, and not its bytes
     for i in 0..n {
         record_answered(m, &mut spare, records, answers, i);
     }
@@ -46,13 +42,11 @@ pub fn answered(m: &mut Image, records: &[u8], answers: &mut [u8]) -> usize
 pub fn run(c: Chip, records: &[u8], answers: &mut [u8]) -> Ran
     ensures { IsRun c records.now answers.old answers.new result }
 {
-    let chip = tidied(c);
     let mut m = [0u8; SIZE];
-    chips::store(chip, &mut m);
+    chips::store(tidied(c), &mut m);
     let n = answered(&mut m, records, answers);
-    let last = chips::load(&m);
     Ran {
-        chip: last,
+        chip: chips::load(&m),
         count: n,
     }
 }

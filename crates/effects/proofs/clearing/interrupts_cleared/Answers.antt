@@ -32,4 +32,4 @@ returns c =
     let l = leaves clrsint1 c.requires c.ranges.value.fits in
     let i = stored l (sequenced l (start c.requires) c.sequencer_written_in.ensures) refl c.stored.ensures in
     let j = flagged i false false e c.status_written_in.ensures in
-    acts l (unlatched j e c.latches_written_in.ensures) c.done_with.ensures
+    acts l (unlatched j e c.latches_written_in.ensures) refl

@@ -23,4 +23,4 @@ pub returns : goal.returns
 returns c =
     let l = leaves clrsint0 c.requires c.ranges.value.fits in
     let i = flagged (sequenced l (start c.requires) c.sequencer_written_in.ensures) false false WordRead c.status_kept_in.ensures in
-    acts l (unlatched i (Write 0x0B c.args.value) c.latches_written_in.ensures) c.done_with.ensures
+    acts l (unlatched i (Write 0x0B c.args.value) c.latches_written_in.ensures) refl

@@ -14,8 +14,8 @@ byte_fits : (p : ℕ) → (lines_of p).byte < 256
 unfolding lines_of
 byte_fits p = omega arith
 
-pub status_kept_in-requires : goal.status_kept_in-requires
-status_kept_in-requires c =
+pub done-requires : goal.done-requires
+done-requires c =
     let a = c.args in
     let p = payload_of a.high a.middle a.low in
     there (driven (leaves_driven c.requires (lines_of p) (byte_fits p)) (start c.requires) c.lines_put.ensures)
@@ -26,4 +26,4 @@ returns c =
     let a = c.args in
     let p = payload_of a.high a.middle a.low in
     let l = leaves_driven c.requires (lines_of p) (byte_fits p) in
-    acts_with l refl refl (flagged (driven l (start c.requires) c.lines_put.ensures) false false WordRead c.status_kept_in.ensures) c.done_with.ensures
+    acts_with l refl refl (flagged (driven l (start c.requires) c.lines_put.ensures) false false WordRead c.done.ensures.m_after) c.done.ensures.value

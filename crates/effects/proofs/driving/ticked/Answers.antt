@@ -10,4 +10,4 @@ use Rattle.effects.proofs.driving.ticked.Goals as goal
 pub returns : goal.returns
 unfolding value_read ticks_of
 returns c =
-    acts_with (leaves_ticked c.requires.image c.requires.n_bound) refl refl (flagged (start c.requires.image) false false WordRead c.status_kept_in.ensures) c.done_with.ensures
+    acts_with (leaves_ticked c.requires.image c.requires.n_bound) refl refl (flagged (start c.requires.image) false false WordRead c.status_kept_in.ensures) refl

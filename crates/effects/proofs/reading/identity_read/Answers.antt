@@ -7,9 +7,9 @@ use Rattle.effects.proofs.ReadLaws.{read_done, unheld_image, read_acts}
 use Rattle.effects.proofs.ReadParts.{identity_left, identity_value, unaccessed, unacked}
 use Rattle.effects.proofs.reading.identity_read.Goals as goal
 
-pub status_kept_in-requires : goal.status_kept_in-requires
+pub done-requires : goal.done-requires
 unfolding read_at table
-status_kept_in-requires c =
+done-requires c =
     let s = state_at c.args.m.now in
     unheld_image c.requires 0x1F (omega arith) (read_done c.requires 0x1F ID refl refl) (c.identity_turned.ensures ∙ ap image_of (identity_left s))
 
@@ -18,4 +18,4 @@ unfolding read_at table
 returns c =
     let s = state_at c.args.m.now in
     read_acts c.requires 0x1F (omega arith) (read_done c.requires 0x1F ID refl refl) (c.identity_turned.ensures ∙ ap image_of (identity_left s))
-    (unaccessed s 0x1F refl) (unacked s 0x1F refl) c.status_kept_in.ensures (c.id_byte-value.ensures ∙ identity_value s) c.done_with.ensures
+    (unaccessed s 0x1F refl) (unacked s 0x1F refl) c.done.ensures.m_after (c.from-value.ensures ∙ c.id_byte.ensures ∙ identity_value s) c.done.ensures.value

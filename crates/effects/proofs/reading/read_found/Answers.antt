@@ -7,18 +7,6 @@ use Rattle.effects.proofs.ReadParts.{plain_left, plain_value, unaccessed, unacke
 use borrow.Enum.Refused.{opened}
 use Rattle.effects.proofs.reading.read_found.Goals as goal
 
-pub returns-in-DMADATA : goal.returns-in-DMADATA
-returns-in-DMADATA c = rw c.in-DMADATA.is c.byte_read.ensures
-
-pub returns-in-SCSIDAT : goal.returns-in-SCSIDAT
-returns-in-SCSIDAT c = rw c.in-SCSIDAT.is c.latch_read.ensures
-
-pub returns-in-STACK : goal.returns-in-STACK
-returns-in-STACK c = rw c.in-STACK.is c.stack_read.ensures
-
-pub returns-in-ID : goal.returns-in-ID
-returns-in-ID c = rw c.in-ID.is c.identity_read.ensures
-
 pub returns-in_default : goal.returns-in_default
 returns-in_default c =
     let r = c.args.register in

@@ -1,7 +1,7 @@
+use Rattle.std.specs.Prelude.{None, Err}
 use Prim.Native.Nat.{ℕ}
-use mathlib.Core.Path.{refl, sym, subst, ◌∙◌}
+use mathlib.Core.Path.{refl, ap, sym, subst, ◌∙◌}
 use Rattle.rules.specs.Codes.{mapped_code}
-use Rattle.rules.specs.declared.map.Mapped.TheVariants.{Missing}
 use Rattle.rules.specs.declared.records.Event.TheVariants.{Read}
 use Rattle.image.specs.Image.{state_at}
 use Rattle.map.proofs.Offsets.{read_offset}
@@ -12,13 +12,13 @@ use Rattle.effects.proofs.reading.read_in.Goals as goal
 
 pub read_found-requires : goal.read_found-requires
 read_found-requires c =
-    record { image = c.requires; register_value = found_read c.args.offset _ (sym c.register_at-found.ensures ∙ c.in-Present.is) }
+    record { image = c.requires; register_value = found_read c.args.offset _ (sym c.register_at.ensures ∙ c.in-Some.is) }
 
-pub returns-in-Present : goal.returns-in-Present
-returns-in-Present c =
+pub returns-in-Some : goal.returns-in-Some
+returns-in-Some c =
     let x = c.args in
-    subst (λ (o : ℕ). Acts (state_at x.m.now) (Read o) c.read_found.new.m c.read_found.result) (sym (read_offset x.offset _ (sym c.register_at-found.ensures ∙ c.in-Present.is))) c.read_found.ensures
+    subst (λ (o : ℕ). Acts (state_at x.m.now) (Read o) c.read_found.new.m c.read_found.result) (sym (read_offset x.offset _ (sym c.register_at.ensures ∙ c.in-Some.is))) c.read_found.ensures
 
-pub returns-in-Missing : goal.returns-in-Missing
-returns-in-Missing c =
-    read_refused c.requires c.args.offset (mapped_code Missing) (read_missing c.requires c.args.offset (sym c.register_at-found.ensures ∙ c.in-Missing.is)) refl c.absent.ensures
+pub returns-in-None : goal.returns-in-None
+returns-in-None c =
+    read_refused c.requires c.args.offset (mapped_code None) (read_missing c.requires c.args.offset (sym c.register_at.ensures ∙ c.in-None.is)) refl (ap Err c.absent.ensures)

@@ -24,4 +24,4 @@ returns c =
     let p = latch_accessed c.args.m.now c.args.value c.io_seen.ensures c.spiordy.ensures in
     let l = fills c.requires c.ranges.value.fits p (acked_is c.args.m.now (Write 0x06 c.args.value) p c.automatic_ack-acked.ensures) in
     let i = stored l (carried l (start c.requires) c.ack_by.ensures) refl c.stored.ensures in
-    acts l (flagged i _ _ WordRead c.status_kept_in.ensures) c.done_with.ensures
+    acts l (flagged i _ _ WordRead c.status_kept_in.ensures) refl

@@ -25,4 +25,4 @@ returns c =
     let acked = acked_is m (Read 0x06) (latch_accessed m c.io_seen.ensures c.spiordy.ensures) c.automatic_ack-acked.ensures in
     read_acts c.requires 0x06 (omega arith) (read_done c.requires 0x06 SCSIDAT refl refl)
     (c.ack_by.ensures ∙ ap image_of (latch_left (state_at m) acked))
-    (latch_accessed m c.io_seen.ensures c.spiordy.ensures) acked c.status_kept_in.ensures (c.data_seen-value.ensures ∙ at_bus m c.requires ∙ latch_value (state_at m)) c.done_with.ensures
+    (latch_accessed m c.io_seen.ensures c.spiordy.ensures) acked c.status_kept_in.ensures (c.from-value.ensures ∙ c.data_seen.ensures ∙ at_bus m c.requires ∙ latch_value (state_at m)) refl

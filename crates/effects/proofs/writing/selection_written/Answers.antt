@@ -12,8 +12,8 @@ pub stored-requires : goal.stored-requires
 stored-requires c =
     record { image = there (sequenced (leaves c.requires.selects.does c.requires.image c.ranges.value.fits) (start c.requires.image) c.sequencer_written_in.ensures); written = c.requires.selects.written }
 
-pub status_kept_in-requires : goal.status_kept_in-requires
-status_kept_in-requires c =
+pub done-requires : goal.done-requires
+done-requires c =
     let l = leaves c.requires.selects.does c.requires.image c.ranges.value.fits in
     there (stored l (sequenced l (start c.requires.image) c.sequencer_written_in.ensures) refl c.stored.ensures)
 
@@ -21,4 +21,4 @@ pub returns : goal.returns
 returns c =
     let l = leaves c.requires.selects.does c.requires.image c.ranges.value.fits in
     let i = stored l (sequenced l (start c.requires.image) c.sequencer_written_in.ensures) refl c.stored.ensures in
-    acts l (flagged i false false WordRead c.status_kept_in.ensures) c.done_with.ensures
+    acts l (flagged i false false WordRead c.done.ensures.m_after) c.done.ensures.value

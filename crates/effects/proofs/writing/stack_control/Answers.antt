@@ -11,8 +11,8 @@ unfolding table written_at
 stored-requires c =
     record { image = there (stacked (leaves dmacntrl1 c.requires c.ranges.value.fits) (start c.requires) c.pointed.ensures); written = refl }
 
-pub status_kept_in-requires : goal.status_kept_in-requires
-status_kept_in-requires c =
+pub done-requires : goal.done-requires
+done-requires c =
     let l = leaves dmacntrl1 c.requires c.ranges.value.fits in
     there (stored l (stacked l (start c.requires) c.pointed.ensures) refl c.stored.ensures)
 
@@ -20,4 +20,4 @@ pub returns : goal.returns
 returns c =
     let l = leaves dmacntrl1 c.requires c.ranges.value.fits in
     let i = stored l (stacked l (start c.requires) c.pointed.ensures) refl c.stored.ensures in
-    acts l (flagged i false false WordRead c.status_kept_in.ensures) c.done_with.ensures
+    acts l (flagged i false false WordRead c.done.ensures.m_after) c.done.ensures.value

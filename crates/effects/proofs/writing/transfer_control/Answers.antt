@@ -16,8 +16,8 @@ unfolding table written_at
 stored-requires c =
     record { image = there (carried (leaves sxfrctl0 c.requires c.ranges.value.fits) (start c.requires) (both_cleared c.args.value c.requires c.channel_by.ensures c.counter_by.ensures)); written = refl }
 
-pub status_kept_in-requires : goal.status_kept_in-requires
-status_kept_in-requires c =
+pub done-requires : goal.done-requires
+done-requires c =
     let l = leaves sxfrctl0 c.requires c.ranges.value.fits in
     there (stored l (carried l (start c.requires) (both_cleared c.args.value c.requires c.channel_by.ensures c.counter_by.ensures)) refl c.stored.ensures)
 
@@ -25,4 +25,4 @@ pub returns : goal.returns
 returns c =
     let l = leaves sxfrctl0 c.requires c.ranges.value.fits in
     let i = stored l (carried l (start c.requires) (both_cleared c.args.value c.requires c.channel_by.ensures c.counter_by.ensures)) refl c.stored.ensures in
-    acts l (flagged i false false WordRead c.status_kept_in.ensures) c.done_with.ensures
+    acts l (flagged i false false WordRead c.done.ensures.m_after) c.done.ensures.value

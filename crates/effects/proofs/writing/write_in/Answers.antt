@@ -1,7 +1,6 @@
-use mathlib.Core.Path.{refl, sym, ◌∙◌}
-use Rattle.rules.specs.Events.{ticks_of}
+use Rattle.std.specs.Prelude.{None, Err}
+use mathlib.Core.Path.{refl, ap, sym, ◌∙◌}
 use Rattle.rules.specs.Codes.{mapped_code}
-use Rattle.rules.specs.declared.map.Mapped.TheVariants.{Missing}
 use Rattle.rules.specs.declared.records.Event.TheVariants.{Write}
 use Rattle.image.specs.Image.{state_at}
 use Rattle.map.proofs.Offsets.{written_offset}
@@ -12,14 +11,13 @@ use Rattle.effects.proofs.writing.write_in.Goals as goal
 
 pub write_found-requires : goal.write_found-requires
 write_found-requires c =
-    record { image = c.requires; written = found_written c.args.offset _ (sym c.register_at-found.ensures ∙ c.in-Present.is) }
+    record { image = c.requires; written = found_written c.args.offset _ (sym c.register_at.ensures ∙ c.in-Some.is) }
 
-pub returns-in-Present : goal.returns-in-Present
-returns-in-Present c =
-    rw (written_offset c.args.offset _ (sym c.register_at-found.ensures ∙ c.in-Present.is)) c.write_found.ensures
+pub returns-in-Some : goal.returns-in-Some
+returns-in-Some c =
+    rw (written_offset c.args.offset _ (sym c.register_at.ensures ∙ c.in-Some.is)) c.write_found.ensures
 
-pub returns-in-Missing : goal.returns-in-Missing
-unfolding ticks_of
-returns-in-Missing c =
+pub returns-in-None : goal.returns-in-None
+returns-in-None c =
     let x = c.args in
-    acts_refused (state_at x.m.now) (Write x.offset x.value) (mapped_code Missing) (absent c.requires x.value x.offset (sym c.register_at-found.ensures ∙ c.in-Missing.is)) refl c.requires.packed refl c.absent.ensures
+    acts_refused (state_at x.m.now) (Write x.offset x.value) (mapped_code None) (absent c.requires x.value x.offset (sym c.register_at.ensures ∙ c.in-None.is)) refl c.requires.packed (ap Err c.absent.ensures)

@@ -13,5 +13,5 @@ latched_in-requires c =
 pub returns : goal.returns
 returns c =
     let a = c.args in
-    closed c.requires.image c.raised_without.ensures a.acks c.fallen_in.ensures (simode0_of a.before0) (simode1_of a.before1) (status_of a.status)
+    closed c.requires.image c.raised_without.ensures a.acks c.fallen_in.ensures (simode0_of a.before.simode0) (simode1_of a.before.simode1) (status_of a.status)
     c.latched_in.ensures

@@ -4,4 +4,4 @@ use Rattle.step.proofs.reset.path_reset.Goals as goal
 
 pub returns : goal.returns
 unfolding path_of power_reset
-returns c = rw (c.empty-scsi.ensures, c.empty-host.ensures)
+returns c = cc

@@ -1,7 +1,7 @@
-use Rattle.step.proofs.Tidied.{stack_fits}
-use borrow.Author.Rules.{rules}
 use mathlib.Core.Path.{refl}
+use borrow.Author.Rules.{rules}
 use Rattle.rules.specs.Chips.{stack_view}
+use Rattle.step.proofs.Tidied.{stack_fits}
 use Rattle.step.proofs.reset.stack_tidied.Goals as goal
 
 pub returns : goal.returns

@@ -15,7 +15,7 @@ pub loop-i-init : goal.loop-i-init
 loop-i-init c =
     let sound = c.requires in (
       search rules,
-      c.smaller-n.ensures,
+      c.min-n.ensures,
       omega arith,
       omega arith,
       refl,
@@ -54,7 +54,7 @@ pub returns : goal.returns
 returns c =
     let l = c.loop-i in
     let a = c.args in
-    let e : l.i ≡ c.smaller-n.result = omega arith in
+    let e : l.i ≡ c.min-n.result = omega arith in
     let k : l.i ≡ stepped_in a.records.now a.answers.now = e ∙ l.invariant.1 in
     let s = state_at a.m.now in
     record {

@@ -13,5 +13,5 @@ pub returns : goal.returns
 returns c =
     let a = c.args in
     let l = a.records.now in
-    let r = c.smaller.result in
-    turned a.m.now a.i (4 * a.i + r) l (record_end a.i (length l) r c.requires.i_in_bounds c.smaller.ensures) c.stepped-reply.ensures c.store_at.ensures
+    let r = c.min.result in
+    turned a.m.now a.i (4 * a.i + r) l (record_end a.i (length l) r c.requires.i_in_bounds c.min.ensures) c.stepped-reply.ensures c.store_at.ensures

@@ -15,13 +15,13 @@ use Rattle.step.proofs.run.run.Goals as goal
 
 pub store-requires : goal.store-requires
 store-requires c =
-    tidy_of (view c.args.c) c.tidied-chip.result c.tidied-chip.ensures.range c.tidied-chip.ensures.packed
+    tidy_of (view c.args.c) c.tidied.result c.tidied.ensures.range c.tidied.ensures.packed
 
 pub answered-n-requires : goal.answered-n-requires
 answered-n-requires c = c.store.ensures.sound
 
-pub load-last-requires : goal.load-last-requires
-load-last-requires c =
+pub load-requires : goal.load-requires
+load-requires c =
     let g = c.store.ensures.sound in
     let a = c.args in
     image_reached _ g.range g.bytes a.records.now a.answers.now (stepped_in a.records.now a.answers.now) c.answered-n.ensures.image c.answered-n.ensures.answers
@@ -33,14 +33,14 @@ returns c =
     let before = a.answers.now in
     let n = stepped_in bytes before in
     let g = c.store.ensures.sound in
-    let tidy = c.tidied-chip.ensures in
-    let w : view c.tidied-chip.result ≡ view a.c = view_of (view a.c) c.tidied-chip.result tidy.range tidy.packed in
+    let tidy = c.tidied.ensures in
+    let w : view c.tidied.result ≡ view a.c = view_of (view a.c) c.tidied.result tidy.range tidy.packed in
     let v = ap state_at (c.store.ensures.packed ∙ ap image_of w) ∙ read_back (view a.c) tidy.range in
     let r = c.answered-n.ensures in
     record {
       count = r.count;
       chip =
-          c.load-last.ensures ∙ ap chip_of (state_reached _ g.range g.bytes bytes before n r.image r.answers)
+          c.load.ensures ∙ ap chip_of (state_reached _ g.range g.bytes bytes before n r.image r.answers)
           ∙ ap (λ (s : State). chip_of (after s (records_of n bytes))) v;
       answers = r.answers ∙ ap (λ (s : State). joined (answers s (records_of n bytes)) ++ drop (16 * n) before) v;
     }

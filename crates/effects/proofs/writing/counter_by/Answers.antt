@@ -1,8 +1,0 @@
-use borrow.Author.Tests.{ne_eqb}
-use Rattle.effects.proofs.writing.counter_by.Goals as goal
-
-pub returns-then-clears : goal.returns-then-clears
-returns-then-clears c = rw c.if-clears.true c.counter_zeroed.ensures
-
-pub returns-else-clears : goal.returns-else-clears
-returns-else-clears c = rw (ne_eqb _ 1 c.if-clears.false) c.requires.packed
