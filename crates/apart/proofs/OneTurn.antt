@@ -1,4 +1,5 @@
 -- What the two calls for one record leave is what the box of `stack` does with it.
+use Rattle.std.specs.Prelude.{None}
 use Prim.Native.Nat.{ℕ}
 use mathlib.Core.Path.{◌≡◌, refl, ap, sym, subst, ◌∙◌}
 use mathlib.Core.Bool.{cond}
@@ -24,7 +25,6 @@ use Rattle.stack.specs.Box.{Box, whole, Doing, Accesses, Resets, Steps, doing, b
 use Rattle.stack.specs.declared.lent.Access.{Access}
 use Rattle.stack.specs.declared.lent.Accessed.{Accessed}
 use Rattle.stackhost.specs.StackCalls.{StackCall, stack_bytes, stack_call, call_refused, stack_called, found_in}
-use Rattle.stackhost.specs.declared.Found.TheVariants.{Elsewhere}
 use Rattle.stackhost.proofs.AsBox.{called_accesses, called_elsewhere}
 use Rattle.image.specs.Image.{head_of, image_of}
 use Rattle.image.specs.Layout.{dmacntrl1_place, host_bytes_place, pointer_place, stack_bytes_place}
@@ -105,7 +105,7 @@ module _ (k : Kept) (b : Box) (t : Turn) (h : Holds k b) (u : Sound b.chip) (siz
       }
 
   -- every other record is refused by the one and taken by the other
-  module _ (e : found_in (doing (decode t.bytes)) ≡ Elsewhere) where
+  module _ (e : found_in (doing (decode t.bytes)) ≡ None) where
     refused :
         stack_call t.stack t.control t.value t.found
         ≡ call_refused (stack_bytes b.stack) (dmacntrl1_byte b.control 0 ∷ []) (t.lent ∷ [])

@@ -1,4 +1,5 @@
 -- The words that a string call did, as single events: where they leave the chip, and what they send, accept and hand out.
+use Rattle.std.specs.Prelude.{Some}
 use Prim.Native.Nat.{ℕ, zero, suc, ◌+◌, ◌*◌, ◌/◌, ◌%◌, ◌<◌}
 use mathlib.Core.Path.{◌≡◌, refl, ap, ap₂, sym, subst, ◌∙◌}
 use mathlib.Core.Bool.{Bool, true, false, cond, ◌||◌, not, beq, or-true}
@@ -13,7 +14,6 @@ use Rattle.rules.specs.Codes.{is_refusal, absent, test_value, shut, access_code}
 use Rattle.rules.specs.Step.{access, ended, step, answer, after}
 use Rattle.rules.specs.declared.codes.Code.TheVariants.{Shut}
 use Rattle.rules.specs.declared.registers.Registers.{Registers}
-use Rattle.rules.specs.declared.records.Decoded.TheVariants.{Well}
 use Rattle.rules.specs.declared.records.Event.{Event}
 use Rattle.rules.specs.declared.records.Event.TheVariants.{WordWrite, WordRead}
 use Rattle.rules.proofs.Logic.{never}
@@ -107,7 +107,7 @@ module _ (s : State) (records : List (List ℕ)) (i : Ranged s) where
       comes_along allows s xs i (answered_trace s records i) ∙ ap (all_come allows s) (answered_handed s records i)
 
 -- a word read's record
-decode_read : decode word_read ≡ Well WordRead
+decode_read : decode word_read ≡ Some WordRead
 unfolding decode fields_of well_formed
 decode_read = refl
 

@@ -8,5 +8,5 @@ ghost use Rattle.driver.specs.Exchanges.{bytes_taken};
 pub fn bytes_taken(low: u8, middle: u8, high: u8) -> u32
     ensures { result ≡ bytes_taken low middle high }
 {
-    (low as u32) + 256 * (middle as u32) + 65536 * (high as u32)
+    u32::from_le_bytes([low, middle, high, 0])
 }

@@ -1,25 +1,22 @@
 -- The calls over an image: one record as a run of one, and refused answers one behind the other.
 use Prim.Native.Nat.{ℕ, zero, suc, ◌+◌, ◌*◌, ◌/◌, ◌≤◌}
-use mathlib.Core.Bool.{Bool, true, false, cond}
-use mathlib.Core.Path.{◌≡◌, refl, ap, sym, subst, ◌∙◌}
+use mathlib.Core.Bool.{true, false}
+use mathlib.Core.Path.{◌≡◌, refl, ap, sym, ◌∙◌}
 use mathlib.Core.List.{List, [], ◌∷◌, ◌++◌, append-nil, append_assoc}
 use native.Mathlib.Omega.{arith}
 use native.Mathlib.Numerals.{add-one}
-use lib.Dec.{eqb}
 use lib.ListN.{length, take, drop, get_or, length-append, drop_of_length-le}
 use lib.Seq.{take_all}
 use borrow.Author.Tests.{eq-eqb, ne_eqb}
 use Rattle.rules.specs.Records.{decode}
 use Rattle.rules.specs.Answers.{Stepped, answer_of, answer_bytes}
-use Rattle.rules.specs.declared.codes.Code.TheVariants.{Malformed}
-use Rattle.rules.specs.Step.{Called, step, answer, called, after, answers}
+use Rattle.rules.specs.Step.{step, answer, called, after, answers}
 use Rattle.image.specs.Image.{IsImage, image_of, state_at}
 use Rattle.saved.specs.Accepted.{accepted}
 use Rattle.step.specs.Runs.{records_of, stepped_in, joined, IsRunOver}
-use Rattle.saved.proofs.Acceptance.{Acceptable, step_acceptable}
-use Rattle.step.proofs.Running.{placed, image_reached}
+use Rattle.step.proofs.Running.{placed}
 use Rattle.step.proofs.Shows.{answer_code}
-use Rattle.host.specs.ImageCalls.{refused_answer, refusals, called_over, image_called, image_run, refused_call, refused_buffer, Left, IsOneAnswered, IsImageRun, IsRefusedRun}
+use Rattle.host.specs.ImageCalls.{refused_answer, refusals, called_over, image_called, image_run, refused_call, Left, IsOneAnswered, IsImageRun, IsRefusedRun}
 
 -- ONE RECORD as a run of one
 pub one_run : {m bytes before n buffer : List ℕ} {r : ℕ} → IsRunOver m bytes before n buffer r → stepped_in bytes before ≡ 1 → length before ≡ 16 → IsOneAnswered m (take 4 bytes) n buffer
@@ -65,18 +62,6 @@ called_one before {m} {bytes} h w e =
       code = e ∙ ap (λ (l : List ℕ). get_or l 0 0 / 32) w.answer ∙ answer_code (state_at m) bytes;
     })
 
--- what a call or a run leaves is an image
-call_image : {m : List ℕ} → Acceptable m → (bytes before : List ℕ) (t : Bool) → IsImage (image_of (cond {A = Called} t (record { state = (step (state_at m) bytes).state; code = (step (state_at m) bytes).code; buffer = answer (state_at m) bytes }) (record { state = state_at m; code = Malformed; buffer = before })).state)
-call_image {m} a bytes before true = (step_acceptable m a bytes).image
-call_image {m} a bytes before false = subst IsImage a.image.packed a.image
-
-pub called_image : (bytes before : List ℕ) {m n buffer : List ℕ} {r : ℕ} → Acceptable m → Left (called_over m bytes before) n buffer r → IsImage n
-unfolding called
-called_image bytes before a w = subst IsImage (sym w.image) (call_image a bytes before (eqb (length before) 16))
-
-pub run_image : {m bytes before n buffer : List ℕ} {r : ℕ} → IsImage m → IsRunOver m bytes before n buffer r → IsImage n
-run_image {m} {bytes} {before} g w = image_reached (state_at m) g.range g.bytes bytes before (stepped_in bytes before) w.image w.answers
-
 -- THE CALL
 pub call_refused_lem : (image bytes before : List ℕ) {buffer : List ℕ} {r : ℕ} → accepted image ≡ false → buffer ≡ (refused_call image before).buffer → r ≡ 1 → Left (image_called image bytes before) image buffer r
 unfolding image_called
@@ -106,15 +91,6 @@ run_done image bytes before h e w f =
       buffer = rw h (w.answers ∙ ap (λ (m : List ℕ). joined (answers (state_at m) (records_of c bytes)) ++ drop (16 * c) before) e);
       count = rw h w.count;
     }
-
--- a buffer of sixteen bytes, and another
-pub refused_sixteen : (l : List ℕ) {b out : List ℕ} → length l ≡ 16 → b ≡ refused_answer → out ≡ (take 0 l ++ b) ++ drop 16 l → out ≡ refused_buffer l
-refused_sixteen l h e f =
-    let k : length l ≤ 16 = omega (arith, h) in
-    rw (eq-eqb (length l) 16 h) (f ∙ ap (λ (b : List ℕ). b ++ drop 16 l) e ∙ ap (λ (r : List ℕ). refused_answer ++ r) (drop_of_length-le l k))
-
-pub refused_other : (l : List ℕ) → (length l ≡ 16 → ⊥) → l ≡ refused_buffer l
-refused_other l h = rw (ne_eqb (length l) 16 h)
 
 -- refused answers, one behind the other
 pub refusals_length : (i : ℕ) → length (refusals i) ≡ 16 * i

@@ -6,29 +6,23 @@ ghost use Rattle.host.specs.ImageCalls.{IsImageCall, IsImageRun};
 use crate::over::step_over;
 use crate::refusing::{refuse, refuse_all};
 use image::layout::SIZE;
-use saved::bytes::known;
-use saved::copies::copy;
-use saved::is_accepted;
+use saved::slices::taken;
 use step::run::answered;
 
 mod over;
 mod refusing;
 
-// One record: its code; the new image in place of the old. A slice is no array, so the image is stepped in a copy.
+// One record: its code; the new image in place of the old.
+#[tactic(auto, using(crate::proofs::OverImages::call_refused_lem))]
 pub fn rabenteig_step(image: &mut [u8], bytes: &[u8], answer: &mut [u8]) -> u8
     ensures { IsImageCall image.old bytes.now answer.old image.new answer.new result }
 {
-    if image.len() != SIZE {
-        return refuse(answer);
-    }
     let mut m = [0u8; SIZE];
-    copy(image, &mut m);
-    known(&m);
-    if !is_accepted(&m) {
+    let Ok(()) = taken(image, &mut m) else {
         return refuse(answer);
-    }
+    };
     let code = step_over(&mut m, bytes, answer);
-    copy(&m, image);
+    image.copy_from_slice(&m);
     code
 }
 
@@ -36,16 +30,11 @@ pub fn rabenteig_step(image: &mut [u8], bytes: &[u8], answer: &mut [u8]) -> u8
 pub fn rabenteig_run(image: &mut [u8], records: &[u8], answers: &mut [u8]) -> usize
     ensures { IsImageRun image.old records.now answers.old image.new answers.new result }
 {
-    if image.len() != SIZE {
-        return refuse_all(records, answers);
-    }
     let mut m = [0u8; SIZE];
-    copy(image, &mut m);
-    known(&m);
-    if !is_accepted(&m) {
+    let Ok(()) = taken(image, &mut m) else {
         return refuse_all(records, answers);
-    }
+    };
     let n = answered(&mut m, records, answers);
-    copy(&m, image);
+    image.copy_from_slice(&m);
     n
 }

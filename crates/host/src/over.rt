@@ -16,8 +16,7 @@ fn one_answered(m: &mut Image, bytes: &[u8], answer: &mut [u8])
     if bytes.len() == RECORD_SIZE {
         answered(m, bytes, answer);
     } else {
-        let short = [0u8; 1];
-        answered(m, &short, answer);
+        answered(m, &[0], answer);
     }
 }
 

@@ -2,7 +2,6 @@
 ghost use Rattle.std.specs.Prelude.{◌≡◌};
 ghost use Rattle.host.specs.ImageCalls.{refused_answer, refused_buffer, IsRefusedRun};
 
-use laws::smaller;
 use rules::records::{ANSWER_SIZE, RECORD_SIZE};
 use step::answers::store_at;
 
@@ -20,8 +19,7 @@ pub fn refuse(answer: &mut [u8]) -> u8
     ensures answer_after { answer.new ≡ refused_buffer answer.old }
 {
     if answer.len() == ANSWER_SIZE {
-        let b = refused_answer();
-        store_at(b, answer, 0);
+        answer.copy_from_slice(&refused_answer());
     }
     1
 }
@@ -30,13 +28,13 @@ pub fn refuse(answer: &mut [u8]) -> u8
 pub fn refuse_all(records: &[u8], answers: &mut [u8]) -> usize
     ensures { IsRefusedRun records.now answers.old answers.new result }
 {
-    let n = smaller(
-        (records.len() + 3) / RECORD_SIZE,
-        answers.len() / ANSWER_SIZE,
-    );
+    let n = records
+        .len()
+        .div_ceil(RECORD_SIZE)
+        .min(answers.len() / ANSWER_SIZE);
+    // By place: of a loop over `chunks_exact_mut` nothing is known behind it but the length.
     for i in 0..n {
-        let b = refused_answer();
-        store_at(b, answers, ANSWER_SIZE * i);
+        store_at(refused_answer(), answers, ANSWER_SIZE * i);
     }
     n
 }

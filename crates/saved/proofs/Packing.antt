@@ -1,10 +1,10 @@
 -- The tests on unused bits and on the bytes past the counts hold exactly of a list that is the image of the chip that it stands for.
 use Prim.Native.Nat.{ℕ, zero, suc, ◌+◌, ◌*◌, ◌-◌, ◌%◌, ◌≤◌, ◌<◌}
 use mathlib.Core.Path.{◌≡◌, refl, sym, ap, ◌∙◌}
-use mathlib.Core.Bool.{Bool, true, false, not, ◌&&◌, ◌||◌}
+use mathlib.Core.Bool.{Bool, true, false, ◌||◌}
 use mathlib.Core.List.{List, [], ◌∷◌, ◌++◌}
 use native.Mathlib.Omega.{arith}
-use borrow.Author.Tests.{eqb-true, eq-eqb, ltb-true, lt-ltb, not-true, not-false}
+use borrow.Author.Tests.{eqb-true, eq-eqb, ltb-true, lt-ltb}
 use lib.Dec.{eqb, eqb→eq}
 use lib.ListN.{length, take, drop, get_or, replicate, length-drop, take-append-drop}
 use lib.Seq.{take-add, take_all, drop_at, drop-drop, take-take, length-take-le}
@@ -22,8 +22,8 @@ use Rattle.image.specs.Image.{scsisig_byte, latches_of, latches_byte, phase_of, 
 use Rattle.image.specs.Layout.{ack_place, brstcntrl_place, counter_high_place, counter_low_place, counter_middle_place, control_place, data_place, dmacntrl0_place, dmacntrl1_place, host_bytes_place, host_count_place, identity_place, image_size, kept_place, last_place, latches_place, offset_place, pointer_place, quiet_place, scsi_bytes_place, scsi_count_place, scsidat_place, scsiid_place, scsirate_place, scsiseq_place, scsisig_place, selection_latches_place, selid_place, sequencer_place, simode0_place, simode1_place, stack_bytes_place, status_place, sxfrctl0_place, sxfrctl1_place, ticks_high_place, ticks_low_place, ticks_middle_place, upper_place}
 use Rattle.chips.proofs.FifosAsChip.{scsi_held, host_held}
 use Rattle.saved.specs.Accepted.{counts_fit, accepted}
-use Rattle.saved.specs.Tests.{all, Fitting, registers_tests, registers_clear, others_tests, others_clear, all_zero, zero_between, past_clear, resting, accepted_tests}
-use Rattle.saved.proofs.Truth.{both_true, same_truth, all_at, one_false}
+use Rattle.saved.specs.Tests.{all, Fitting, registers_tests, registers_clear, others_tests, others_clear, all_zero, zero_between, past_clear, accepted_tests}
+use Rattle.saved.proofs.Truth.{both_true, same_truth, all_at}
 use Rattle.saved.proofs.Acceptance.{counts_fitting, fitting_counts, in_bytes, in_range, image_fitting, acceptable_length, accepted_acceptable, acceptable_accepted}
 use Rattle.saved.proofs.Resting.{resting_rests, rests_resting}
 
@@ -225,6 +225,11 @@ tested_image m b e f c o p =
       bytes = in_bytes m b;
     }
 
+pub tests_image :
+    (m : List ℕ) → (length m ≡ image_size) × Bytes m → counts_fit m ≡ true → registers_clear m ≡ true → others_clear m ≡ true → past_clear m ≡ true
+    → IsImage m
+tests_image m b f c o p = tested_image m b.1 b.0 (counts_fitting m f) c o p
+
 -- AND BACK: an image has each byte of the chip
 module _ (m : List ℕ) (i : IsImage m) where
   head_at : (k : ℕ) → get_or (image_of (state_at m)) k 0 ≡ get_or m k 0
@@ -305,16 +310,3 @@ accepted_by_lem m b e = same_truth (accepted m) (all (accepted_tests m)) to from
         let f = counts_fitting m (all_at (accepted_tests m) h 0) in
         let i = tested_image m b e f (all_at (accepted_tests m) h 1) (all_at (accepted_tests m) h 2) (all_at (accepted_tests m) h 3) in
         acceptable_accepted m (record { image = i; rest = resting_rests (state_at m) (all_at (accepted_tests m) h 4) })
-
--- a test of the code that does not fail
-pub holds : {r t : Bool} → r ≡ t → not r ≡ false → t ≡ true
-holds {r} e f = sym e ∙ not-false r f
-
--- what one that fails tells, and what the last one tells where those before it hold
-module _ (m : List ℕ) (b : (length m ≡ image_size) × Bytes m) where
-  pub refused_at : (k : ℕ) {r : Bool} → r ≡ get_or (accepted_tests m) k true → not r ≡ true → false ≡ accepted m
-  refused_at k {r} e f = one_false (accepted_tests m) k (sym e ∙ not-true r f) ∙ sym (accepted_by_lem m b.1 b.0)
-
-  pub last_decides : {r : Bool} → counts_fit m ≡ true → registers_clear m ≡ true → others_clear m ≡ true → past_clear m ≡ true → r ≡ resting (state_at m) → r ≡ accepted m
-  last_decides f c o p e =
-      e ∙ sym (λ i. f i && (c i && (o i && (p i && resting (state_at m))))) ∙ sym (accepted_by_lem m b.1 b.0)

@@ -1,6 +1,6 @@
 -- Tests that are both true, and tests that are true together.
 use mathlib.Core.Path.{◌≡◌, refl, sym, ap, ◌∙◌}
-use mathlib.Core.Bool.{Bool, true, false, not, ◌&&◌, ◌||◌}
+use mathlib.Core.Bool.{Bool, true, false, ◌&&◌}
 use mathlib.Core.List.{List, [], ◌∷◌}
 use Prim.Native.Nat.{ℕ, zero, suc}
 use lib.Dec.{eqb}
@@ -44,22 +44,3 @@ all_at (b ∷ []) e zero = e
 all_at (b ∷ []) e (suc k) = refl
 all_at (b ∷ c ∷ l) e zero = left_true b (all (c ∷ l)) e
 all_at (b ∷ c ∷ l) e (suc k) = all_at (c ∷ l) (right_true b (all (c ∷ l)) e) k
-
--- a byte against that which its parts have again
-pub again_is : {R : Type 0} (of : ℕ → R) (byte : R → ℕ) (v : ℕ) {r : R} {n : ℕ} → r ≡ of v → n ≡ byte r → eqb n v ≡ eqb (byte (of v)) v
-again_is of byte v e f = ap (λ (x : ℕ). eqb x v) (f ∙ ap byte e)
-
--- a status against its cause: set, or else the cause does not hold
-pub set_shown : {a : Bool} (b : Bool) → a ≡ true → true ≡ (a || not b)
-set_shown b e = rw e
-
-pub unset_shown : {a b r : Bool} → a ≡ false → r ≡ b → not r ≡ (a || not b)
-unset_shown e f = rw (e, f)
-
--- where one test fails, not all hold
-pub one_false : (l : List Bool) (k : ℕ) → get_or l k true ≡ false → false ≡ all l
-one_false l k e = go (all l) refl
-  where
-    go : (b : Bool) → all l ≡ b → false ≡ b
-    go true h = absurd (never (sym e ∙ all_at l h k))
-    go false h = refl

@@ -1,16 +1,15 @@
--- The loop that joins bytes and looks once whether any of them is not 0.
-use Prim.Native.Nat.{ℕ, suc, ◌+◌, ◌-◌, ◌≤◌, ◌<◌}
+-- Bytes that are joined, and looked at once: 0 exactly where each of them is.
+use Prim.Native.Nat.{ℕ}
 use mathlib.Core.Path.{◌≡◌, refl, sym, ap, ◌∙◌}
-use mathlib.Core.Bool.{Bool, true, false, ◌&&◌, and-true}
-use mathlib.Core.List.{List, [], ◌∷◌, ◌++◌}
+use mathlib.Core.Bool.{Bool, true, false, ◌&&◌}
+use mathlib.Core.List.{List, [], ◌∷◌}
 use native.Mathlib.Omega.{arith}
 use borrow.Author.Tests.{eqb-true, eq-eqb}
 use lib.Dec.{eqb}
 use lib.Bits.{bit_or, or_add_and, and_le_l, and_le_r, or_zero_l}
-use lib.ListN.{length, take, drop, get_or, length-drop}
-use lib.Seq.{take-suc, get_or-drop}
+use Rattle.std.specs.Prelude.{fold}
 use Rattle.rules.proofs.Logic.{left_true, right_true}
-use Rattle.saved.specs.Tests.{all_zero, zero_between}
+use Rattle.saved.specs.Tests.{all_zero}
 use Rattle.saved.proofs.Truth.{both_true, same_truth}
 
 -- two joined are 0 exactly where both are
@@ -27,50 +26,22 @@ module _ (a b : ℕ) where
       let y : b ≡ 0 = eqb-true b 0 (right_true (eqb a 0) (eqb b 0) e) in
       eq-eqb (bit_or a b) 0 (rw (x, y) (or_zero_l 0))
 
-  joined_zero : eqb (bit_or a b) 0 ≡ (eqb a 0 && eqb b 0)
-  joined_zero = same_truth _ _ to from
+  two_zero : eqb (bit_or a b) 0 ≡ (eqb a 0 && eqb b 0)
+  two_zero = same_truth _ _ to from
 
-and_assoc : (a b c : Bool) → (a && (b && c)) ≡ ((a && b) && c)
+and_assoc : (a b c : Bool) → ((a && b) && c) ≡ (a && (b && c))
 and_assoc true b c = refl
 and_assoc false b c = refl
 
--- one byte more
-zero_more : (l : List ℕ) (x : ℕ) → all_zero (l ++ (x ∷ [])) ≡ (all_zero l && eqb x 0)
+all_joined : (a : ℕ) (l : List ℕ) → eqb (fold bit_or a l) 0 ≡ (eqb a 0 && all_zero l)
 unfolding all_zero
-zero_more [] x = and-true (eqb x 0)
-zero_more (b ∷ l) x = ap (λ (t : Bool). eqb b 0 && t) (zero_more l x) ∙ and_assoc (eqb b 0) (all_zero l) (eqb x 0)
+all_joined a [] = sym (go (eqb a 0))
+  where
+    go : (b : Bool) → (b && true) ≡ b
+    go true = refl
+    go false = refl
+all_joined a (b ∷ l) =
+    all_joined (bit_or a b) l ∙ ap (λ (t : Bool). t && all_zero l) (two_zero a b) ∙ and_assoc (eqb a 0) (eqb b 0) (all_zero l)
 
--- the bytes from one place up to i are joined
-pub record Joined (m : List ℕ) (from to any i : ℕ) : Type 0 where
-  pub least : from ≤ i
-  pub most : i ≤ to
-  pub room : to ≤ length m
-  pub looked : eqb any 0 ≡ zero_between m from i
-
-pub begun : (m : List ℕ) (from to : ℕ) → from ≤ to → to ≤ length m → Joined m from to 0 from
-unfolding all_zero
-begun m from to h r =
-    let z : from - from ≡ 0 = omega arith in
-    record { least = omega arith; most = h; room = r; looked = rw z }
-
-module _ {m : List ℕ} {from to any i : ℕ} (c : Joined m from to any i) where
-  pub again : {x : ℕ} → x ≡ get_or m i 0 → i < to → Joined m from to (bit_or any x) (i + 1)
-  again {x} e h =
-      let k : i + 1 - from ≡ suc (i - from) = omega (arith, c.least) in
-      let j : from + (i - from) ≡ i = omega (arith, c.least) in
-      let l : i - from < length (drop from m) = simp length-drop (omega (arith, c.least, c.room)) in
-      let g : get_or (drop from m) (i - from) 0 ≡ x = get_or-drop from m (i - from) 0 ∙ ap (λ (n : ℕ). get_or m n 0) j ∙ sym e in
-      record {
-        least = omega (arith, c.least);
-        most = omega arith;
-        room = c.room;
-        looked =
-            joined_zero any x ∙ ap (λ (t : Bool). t && eqb x 0) c.looked ∙ sym (zero_more (take (i - from) (drop from m)) x)
-            ∙ ap all_zero
-            (sym (ap (λ (n : ℕ). take n (drop from m)) k ∙ take-suc (drop from m) (i - from) 0 l ∙ ap (λ (n : ℕ). take (i - from) (drop from m) ++ (n ∷ [])) g));
-      }
-
-  pub ended : to ≤ i → eqb any 0 ≡ zero_between m from to
-  ended h =
-      let e : i ≡ to = omega (arith, c.most) in
-      c.looked ∙ ap (zero_between m from) e
+pub joined_zero : (l : List ℕ) → eqb (fold bit_or 0 l) 0 ≡ all_zero l
+joined_zero l = all_joined 0 l

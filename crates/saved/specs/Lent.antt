@@ -1,27 +1,30 @@
 -- A CHIP IN A LENT SLICE: what is written into one and what is read from one, of any length.
-use Rattle.std.specs.Prelude.{ℕ, ◌≡◌, Bool, true, false, cond, List}
-use Rattle.rules.specs.State.{power_reset}
+use Rattle.std.specs.Prelude.{ℕ, ◌≡◌, true, false, cond, List, Result, Ok, Err}
 use Rattle.rules.specs.Chips.{view, chip_of}
 use Rattle.rules.specs.declared.chip.Chip.{Chip}
-use Rattle.image.specs.Image.{image_of, state_at}
+use Rattle.image.specs.Image.{IsImage, image_of, state_at}
 use Rattle.saved.specs.Accepted.{length_right, accepted}
-use Rattle.saved.specs.declared.slices.Loaded.{Loaded}
+use Rattle.saved.specs.declared.slices.Refused.{Refused}
+use Rattle.saved.specs.declared.slices.Refused.TheVariants.{OtherLength, NotAccepted}
 
 -- "the image if the slice has the right length, else nothing is written"
 unfoldable pub chip_written : Chip → List ℕ → List ℕ
 chip_written c out = cond (length_right out) (image_of (view c)) out
 
 -- "and the answer says so"
-pub record IsWritten (c : Chip) (before after : List ℕ) (told : Bool) : Type 0 where
-  pub fits : told ≡ length_right before
+pub record IsWritten (c : Chip) (before after : List ℕ) (told : Result (Unit {0}) Refused) : Type 0 where
+  pub fits : told ≡ cond (length_right before) (Ok tt) (Err OtherLength)
   pub bytes : after ≡ chip_written c before
 
+-- why a slice that is not accepted is refused
+abbrev pub refusal : List ℕ → Refused
+refusal image = cond (length_right image) NotAccepted OtherLength
+
 -- "the chip, or the refusal"
-abbrev pub accepted_chip : Chip → Loaded
-accepted_chip c = record { accepted = true; chip = c }
+unfoldable pub chip_read : List ℕ → Result Chip Refused
+chip_read image = cond (accepted image) (Ok (chip_of (state_at image))) (Err (refusal image))
 
-abbrev pub refused_chip : Loaded
-refused_chip = record { accepted = false; chip = chip_of power_reset }
-
-unfoldable pub chip_read : List ℕ → Loaded
-chip_read image = cond (accepted image) (accepted_chip (chip_of (state_at image))) refused_chip
+-- m is the image that a slice holds, or the slice is refused
+abbrev pub IsTaken : List ℕ → List ℕ → Result (Unit {0}) Refused → Type 0
+IsTaken image m (Ok done) = (accepted image ≡ true) × (m ≡ image) × IsImage m
+IsTaken image m (Err e) = (accepted image ≡ false) × (e ≡ refusal image)

@@ -9,45 +9,27 @@ use image::layout::{
     ACK, DMACNTRL0, DMACNTRL1, IDENTITY, Image, KEPT_PARITY, LATCHES, LINES_UPPER, POINTER, SCSIID,
     SCSIRATE, SELECTION_LATCHES, SIMODE0, SXFRCTL0, SXFRCTL1,
 };
-use registers::bytes::{
-    dmacntrl0_byte, dmacntrl0_of, dmacntrl1_byte, dmacntrl1_of, simode0_byte, simode0_of,
-    sxfrctl0_byte, sxfrctl0_of, sxfrctl1_byte, sxfrctl1_of,
-};
+use registers::bytes::{Stored, dmacntrl1_byte, dmacntrl1_of, kept};
+use rules::registers::{Dmacntrl0, Simode0, Sxfrctl0, Sxfrctl1};
 
-fn sxfrctl0_clear(v: u8) -> bool
-    ensures { result ≡ eqb (sxfrctl0_byte (sxfrctl0_of v)) v }
+// A byte that its register keeps whole.
+fn is_clear<R: Stored>(v: u8) -> bool
+    ensures { result ≡ eqb (R.read (R.written v)) v }
 {
-    sxfrctl0_byte(sxfrctl0_of(v)) == v
+    kept::<R>(v) == v
 }
 
-fn sxfrctl1_clear(v: u8) -> bool
-    ensures { result ≡ eqb (sxfrctl1_byte (sxfrctl1_of v)) v }
-{
-    sxfrctl1_byte(sxfrctl1_of(v)) == v
-}
-
+// The four below are no `Stored` registers: pairs of fields, 353h that shows the pointer too, and latches.
 fn scsirate_clear(v: u8) -> bool
     ensures { result ≡ eqb (scsirate_byte (scsirate_of v)) v }
 {
-    (v >> 4) % 8 * 16 + (v >> 0) % 16 == v
+    v < 128
 }
 
 fn scsiid_clear(v: u8) -> bool
     ensures { result ≡ eqb (scsiid_byte (scsiid_of v)) v }
 {
-    (v >> 4) % 8 * 16 + (v >> 0) % 8 == v
-}
-
-fn simode0_clear(v: u8) -> bool
-    ensures { result ≡ eqb (simode0_byte (simode0_of v)) v }
-{
-    simode0_byte(simode0_of(v)) == v
-}
-
-fn dmacntrl0_clear(v: u8) -> bool
-    ensures { result ≡ eqb (dmacntrl0_byte (dmacntrl0_of v)) v }
-{
-    dmacntrl0_byte(dmacntrl0_of(v)) == v
+    (v >> 4) % 8 * 16 + v % 8 == v
 }
 
 fn dmacntrl1_clear(v: u8) -> bool
@@ -63,24 +45,29 @@ fn latches_clear(v: u8) -> bool
 }
 
 // Of the registers.
+#[tactic(auto, unfolding(crate::specs::Tests::registers_clear))]
 pub fn registers_clear(m: &Image) -> bool
     ensures { result ≡ registers_clear m.now }
 {
-    sxfrctl0_clear(m[SXFRCTL0])
-        & (sxfrctl1_clear(m[SXFRCTL1])
-            & (scsirate_clear(m[SCSIRATE])
-                & (scsiid_clear(m[SCSIID])
-                    & (simode0_clear(m[SIMODE0])
-                        & (dmacntrl0_clear(m[DMACNTRL0]) & dmacntrl1_clear(m[DMACNTRL1]))))))
+    is_clear::<Sxfrctl0>(m[SXFRCTL0])
+        & is_clear::<Sxfrctl1>(m[SXFRCTL1])
+        & scsirate_clear(m[SCSIRATE])
+        & scsiid_clear(m[SCSIID])
+        & is_clear::<Simode0>(m[SIMODE0])
+        & is_clear::<Dmacntrl0>(m[DMACNTRL0])
+        & dmacntrl1_clear(m[DMACNTRL1])
 }
 
 // Of the rest of the head.
+#[tactic(auto, unfolding(crate::specs::Tests::others_clear))]
 pub fn others_clear(m: &Image) -> bool
     ensures { result ≡ others_clear m.now }
 {
     latches_clear(m[LATCHES])
-        & ((m[SELECTION_LATCHES] < 16)
-            & ((m[LINES_UPPER] < 4)
-                & ((m[ACK] < 2)
-                    & ((m[KEPT_PARITY] < 2) & ((m[IDENTITY] < 32) & (m[POINTER] < 32))))))
+        & (m[SELECTION_LATCHES] < 16)
+        & (m[LINES_UPPER] < 4)
+        & (m[ACK] < 2)
+        & (m[KEPT_PARITY] < 2)
+        & (m[IDENTITY] < 32)
+        & (m[POINTER] < 32)
 }

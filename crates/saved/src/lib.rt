@@ -12,12 +12,12 @@ use image::layout::{HOST_COUNT, Image, OFFSET, QUIET, SCSI_COUNT};
 pub mod bytes;
 mod calm;
 mod clear;
-pub mod copies;
 mod past;
 mod rest;
 pub mod slices;
 
 // "FIFO counts at most 128 and 8, offset and quiet count at most 8"
+#[tactic(auto, unfolding(crate::specs::Accepted::counts_fit))]
 fn counts_fit(m: &Image) -> bool
     ensures { result ≡ counts_fit m.now }
 {
@@ -25,21 +25,10 @@ fn counts_fit(m: &Image) -> bool
 }
 
 // Nothing is copied and no event is run: the image is looked at, the cheap tests first.
+#[tactic(auto, using(crate::proofs::Packing::accepted_by_lem))]
 pub fn is_accepted(m: &Image) -> bool
     ensures { result ≡ accepted m.now }
 {
     bytes::known(m);
-    if !counts_fit(m) {
-        return false;
-    }
-    if !registers_clear(m) {
-        return false;
-    }
-    if !others_clear(m) {
-        return false;
-    }
-    if !past_clear(m) {
-        return false;
-    }
-    is_resting(m)
+    counts_fit(m) && registers_clear(m) && others_clear(m) && past_clear(m) && is_resting(m)
 }

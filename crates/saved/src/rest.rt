@@ -15,6 +15,7 @@ use settling::conditions_of;
 use settling::shakes::can_handshake;
 
 // No quiet ticks stand where BSY or SEL is seen.
+#[tactic(auto, unfolding(crate::specs::Tests::quiet_fits, image::specs::Image::state_at))]
 fn quiet_fits(m: &Image) -> bool
     ensures { result ≡ quiet_fits (state_at m.now) }
 {
@@ -25,28 +26,26 @@ fn quiet_fits(m: &Image) -> bool
 fn error_shown(m: &Image) -> bool
     ensures { result ≡ ((state_at m.now).status.fwerr || not (fifo_conflict (registers_at m.now))) }
 {
-    if fwerr(m) { true } else { !fifo_conflict(m) }
+    fwerr(m) || !fifo_conflict(m)
 }
 
 // SPIORDY is set where its cause holds.
 fn ready_shown(m: &Image) -> bool
     ensures { result ≡ ((state_at m.now).status.spiordy || not (pio_ready (state_at m.now))) }
 {
-    if spiordy(m) { true } else { !pio_ready(m) }
+    spiordy(m) || !pio_ready(m)
 }
 
 // SCSIPERR is clear where ENSPCHK is 0, REQINIT where ACK is seen.
+#[tactic(auto, unfolding(crate::specs::Tests::status_shown, image::specs::Image::state_at))]
 fn status_shown(m: &Image) -> bool
     ensures { result ≡ status_shown (state_at m.now) }
 {
-    let perr = enspchk(m) | !scsiperr(m);
-    let init = !reqinit(m) | !ack_seen(m);
-    let error = error_shown(m);
-    let ready = ready_shown(m);
-    perr & (init & (error & ready))
+    (enspchk(m) | !scsiperr(m)) & (!reqinit(m) | !ack_seen(m)) & error_shown(m) & ready_shown(m)
 }
 
 // "Move a byte between the FIFOs, if path and there is a byte and room."
+#[tactic(auto, using(crate::proofs::Settled::move_out, crate::proofs::Settled::move_in, image::proofs::AtPlaces::at_host, image::proofs::AtPlaces::at_scsi))]
 fn can_move(m: &Image, c: Conditions) -> bool
     requires { IsImage m.now }
     ensures { result ≡ can_move c (state_at m.now).transfer }
@@ -61,25 +60,22 @@ fn can_move(m: &Image, c: Conditions) -> bool
 }
 
 // Neither a move nor a handshake is possible; without a path neither is.
+#[tactic(auto, using(crate::proofs::Settled::looked_settled, crate::proofs::Settled::pathless_settled), unfolding(image::specs::Image::state_at))]
 fn is_settled(m: &Image) -> bool
     requires { IsImage m.now }
     ensures { result ≡ settled (state_at m.now) }
 {
-    if path(m) {
-        let c = conditions_of(m);
-        !can_move(m, c) & !can_handshake(m, c)
-    } else {
-        true
+    if !path(m) {
+        return true;
     }
+    let c = conditions_of(m);
+    !can_move(m, c) & !can_handshake(m, c)
 }
 
+#[tactic(auto, unfolding(crate::specs::Tests::resting))]
 pub fn is_resting(m: &Image) -> bool
     requires { IsImage m.now }
     ensures { result ≡ resting (state_at m.now) }
 {
-    let quiet = quiet_fits(m);
-    let shown = status_shown(m);
-    let calm = is_calm(m);
-    let settled = is_settled(m);
-    quiet & (shown & (calm & settled))
+    quiet_fits(m) & status_shown(m) & is_calm(m) & is_settled(m)
 }

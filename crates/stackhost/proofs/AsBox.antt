@@ -1,5 +1,6 @@
 -- The call on the bytes of a stack and of 353h's bits is the access on that stack and those bits: what a box that holds them apart does
 -- (`Box` of `stack`) is done by the call, and every other record is refused.
+use Rattle.std.specs.Prelude.{Option, Some, None}
 use Prim.Native.Nat.{ℕ}
 use mathlib.Core.Path.{◌≡◌, refl, ap, ◌∙◌}
 use mathlib.Core.Bool.{Bool, true, false, ◌&&◌, cond}
@@ -13,7 +14,6 @@ use Rattle.rules.specs.Records.{decode}
 use Rattle.rules.specs.Chips.{stack_view}
 use Rattle.rules.proofs.Computes.{computes}
 use Rattle.rules.specs.declared.chip.Stack.{Stack}
-use Rattle.rules.specs.declared.records.Decoded.TheVariants.{Well}
 use Rattle.rules.specs.declared.registers.Dmacntrl1.{Dmacntrl1}
 use Rattle.stack.specs.Accesses.{stack_accessed}
 use Rattle.stack.specs.Apart.{access_event, access_record, AccessFits}
@@ -22,8 +22,6 @@ use Rattle.stack.specs.declared.lent.Access.{Access}
 use Rattle.stack.specs.declared.lent.Access.TheVariants.{ReadStack, WriteStack, ReadDmacntrl1, WriteDmacntrl1}
 use Rattle.stack.specs.declared.lent.Accessed.{Accessed}
 use Rattle.stack.proofs.AsBefore.{decode_access}
-use Rattle.stackhost.specs.declared.Found.{Found}
-use Rattle.stackhost.specs.declared.Found.TheVariants.{Elsewhere}
 use Rattle.stackhost.specs.StackCalls.{stack_in, stack_bytes, stack_call, call_refused, call_done, found_in, call_of, stack_called}
 
 -- what is packed is read back
@@ -37,7 +35,7 @@ stack_back : (k : Stack) → length k.bytes ≡ 32 → stack_in (stack_bytes k) 
 stack_back k e =
     λ i. record { bytes = take_at k.bytes (k.pointer ∷ []) 32 e i; pointer = get_or_at k.bytes k.pointer [] 0 32 e i }
 
-doing_access : (a : Access) → doing (Well (access_event a)) ≡ Accesses a
+doing_access : (a : Access) → doing (Some (access_event a)) ≡ Accesses a
 unfolding doing doing_event
 doing_access ReadStack = refl
 doing_access (WriteStack byte) = refl
@@ -51,7 +49,7 @@ module _ (d : Dmacntrl1) (k : Stack) (v : ℕ) (size : length k.bytes ≡ 32) wh
 
   -- by what the record asks
   found_called :
-      (bytes : List ℕ) (f : Found) → found_in (doing (decode bytes)) ≡ f →
+      (bytes : List ℕ) (f : Option Access) → found_in (doing (decode bytes)) ≡ f →
       stack_called (stack_bytes k) (dmacntrl1_byte d 0 ∷ []) bytes (v ∷ [])
       ≡ call_of f (stack_bytes k) (dmacntrl1_byte d 0 ∷ []) (v ∷ [])
   unfolding stack_called
@@ -61,9 +59,9 @@ module _ (d : Dmacntrl1) (k : Stack) (v : ℕ) (size : length k.bytes ≡ 32) wh
 
   -- EVERY OTHER RECORD IS REFUSED, every buffer as it was
   pub called_elsewhere :
-      (bytes : List ℕ) → found_in (doing (decode bytes)) ≡ Elsewhere →
+      (bytes : List ℕ) → found_in (doing (decode bytes)) ≡ None →
       stack_called (stack_bytes k) (dmacntrl1_byte d 0 ∷ []) bytes (v ∷ []) ≡ call_refused (stack_bytes k) (dmacntrl1_byte d 0 ∷ []) (v ∷ [])
-  called_elsewhere bytes e = found_called bytes Elsewhere e
+  called_elsewhere bytes e = found_called bytes None e
 
 module _ (a : Access) (d : Dmacntrl1) (k : Stack) (v : ℕ) (size : length k.bytes ≡ 32) where
   abbrev left : Accessed

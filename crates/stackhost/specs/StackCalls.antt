@@ -1,5 +1,6 @@
 -- R-4: the call of a host program that holds the stack apart: "a 33-byte stack record and the byte for 353h",
 -- an event record of four bytes, and one byte for the value.
+use Rattle.std.specs.Prelude.{Option, Some, None}
 use Rattle.std.specs.Prelude.{ℕ, ◌&&◌, cond, List, [], ◌∷◌, ◌++◌, eqb, length, take, get_or}
 use Rattle.rules.specs.Registers.{dmacntrl1_of, dmacntrl1_byte}
 use Rattle.rules.specs.Records.{decode}
@@ -9,8 +10,6 @@ use Rattle.rules.specs.declared.codes.Code.TheVariants.{Done, Malformed}
 use Rattle.stack.specs.Accesses.{stack_accessed}
 use Rattle.stack.specs.Box.{Doing, Accesses, Resets, Steps, doing}
 use Rattle.stack.specs.declared.lent.Access.{Access}
-use Rattle.stackhost.specs.declared.Found.{Found}
-use Rattle.stackhost.specs.declared.Found.TheVariants.{Here, Elsewhere}
 
 -- the thirty-two bytes, place 0 first, and then the pointer
 abbrev pub stack_in : List ℕ → Stack
@@ -40,14 +39,14 @@ call_done a stack control =
     stack_call (stack_bytes r.stack) (dmacntrl1_byte r.control 0 ∷ []) (r.value ∷ []) (number_of Done)
 
 -- what a record asks: an access to 35Dh or 353h, or something for the step
-abbrev pub found_in : Doing → Found
-found_in (Accesses a) = Here a
-found_in Resets = Elsewhere
-found_in Steps = Elsewhere
+abbrev pub found_in : Doing → Option Access
+found_in (Accesses a) = Some a
+found_in Resets = None
+found_in Steps = None
 
-abbrev pub call_of : Found → List ℕ → List ℕ → List ℕ → StackCall
-call_of (Here a) stack control value = call_done a stack control
-call_of Elsewhere stack control value = call_refused stack control value
+abbrev pub call_of : Option Access → List ℕ → List ℕ → List ℕ → StackCall
+call_of (Some a) stack control value = call_done a stack control
+call_of None stack control value = call_refused stack control value
 
 -- THE CALL: a buffer of another length, a record that is not well formed and a record for the step are refused
 unfoldable pub stack_called : List ℕ → List ℕ → List ℕ → List ℕ → StackCall

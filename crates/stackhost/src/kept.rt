@@ -14,9 +14,7 @@ pub fn bytes_in(kept: &[u8]) -> [u8; STACK_SIZE]
     ensures { result ≡ take 32 kept.now }
 {
     let mut bytes = [0u8; STACK_SIZE];
-    for i in 0..STACK_SIZE {
-        bytes[i] = kept[i];
-    }
+    bytes.copy_from_slice(&kept[..STACK_SIZE]);
     bytes
 }
 
@@ -25,9 +23,7 @@ pub fn bytes_kept(bytes: [u8; STACK_SIZE], kept: &mut [u8])
     requires { 32 ≤ length kept.old }
     ensures { kept.new ≡ bytes ++ drop 32 kept.old }
 {
-    for i in 0..STACK_SIZE {
-        kept[i] = bytes[i];
-    }
+    kept[..STACK_SIZE].copy_from_slice(&bytes);
 }
 
 // The stack that the record holds.
@@ -35,9 +31,8 @@ pub fn stack_in(kept: &[u8]) -> Stack
     requires { length kept.now ≡ 33 }
     ensures { result ≡ stack_in kept.now }
 {
-    let bytes = bytes_in(kept);
     Stack {
-        bytes: bytes,
+        bytes: bytes_in(kept),
         pointer: kept[STACK_SIZE],
     }
 }
@@ -47,7 +42,6 @@ pub fn stack_kept(s: Stack, kept: &mut [u8])
     requires { length kept.old ≡ 33 }
     ensures { kept.new ≡ stack_bytes s }
 {
-    let bytes = s.bytes;
-    bytes_kept(bytes, kept);
+    bytes_kept(s.bytes, kept);
     kept[STACK_SIZE] = s.pointer;
 }

@@ -11,3 +11,4 @@ pub mod Fits  -- the calls by their buffers
 pub mod ByValue  -- a chip laid out and taken up again
 pub mod ReadCall  -- a read of a chip by value
 pub mod WriteCall  -- a write to a chip by value
+pub mod Codes

@@ -19,7 +19,7 @@ use Rattle.settling.specs.Blocks.{start_of}
 use Rattle.settling.specs.Settles.{end_of, Settles}
 use Rattle.settling.specs.declared.Told.{Told}
 use Rattle.settling.proofs.ReadBackOfTransfer.{kept}
-use Rattle.fifos.specs.declared.sent.Sent.{Sent}
+use Rattle.rules.specs.declared.chip.Fifo.{Fifo}
 use Rattle.words.specs.Blocks.{settled_with, block_settled, block_left}
 use Rattle.words.proofs.Port.{conditions_same}
 use Rattle.strings.specs.Passed.{IsBlock}
@@ -57,7 +57,7 @@ held_leaves s h =
     ap (λ (x : Settling). with_status (status_d x.acks (ack_seen (with_transfer x.transfer s)) s.status) (with_transfer x.transfer s))
     (held_settles s h)
 
-pub held_block : {s : State} {h m : List ℕ} {r : Sent} → IsBlock (with_host h s) h m r → IsBlock s h m r
+pub held_block : {s : State} {h m : List ℕ} {r : Fifo 8} → IsBlock (with_host h s) h m r → IsBlock s h m r
 held_block {s} {h} b =
     record {
       image = b.image ∙ ap image_of (held_leaves s h);
@@ -113,7 +113,7 @@ module _ {m : List ℕ} (i : IsImage m) (h : List ℕ) (n : length h ≤ 128) (b
   pub image_held : IsImage k
   image_held = image_is (with_host h (state_at m)) e (held_range (state_at m) h i.range n) (held_bytes (state_at m) h i.bytes b)
 
-  pub block_held : {l : List ℕ} {r : Sent} → IsBlock (state_at k) (state_at k).transfer.host l r → IsBlock (state_at m) h l r
+  pub block_held : {l : List ℕ} {r : Fifo 8} → IsBlock (state_at k) (state_at k).transfer.host l r → IsBlock (state_at m) h l r
   block_held {l} {r} x = held_block (subst (λ (s : State). IsBlock s s.transfer.host l r) held_state x)
 
 -- n bytes of a run put behind
@@ -131,6 +131,6 @@ module _ {m : List ℕ} (i : IsImage m) (bytes : List ℕ) (b : Bytes bytes) (fr
   pub image_filled : {k : List ℕ} → k ≡ image_of (with_host filled (state_at m)) → IsImage k
   image_filled e = image_held i filled filled_fits filled_bytes e
 
-  pub block_filled : {k : List ℕ} → k ≡ image_of (with_host filled (state_at m)) → {l : List ℕ} {r : Sent}
+  pub block_filled : {k : List ℕ} → k ≡ image_of (with_host filled (state_at m)) → {l : List ℕ} {r : Fifo 8}
       → IsBlock (state_at k) (state_at k).transfer.host l r → IsBlock (state_at m) filled l r
   block_filled e x = block_held i filled filled_fits filled_bytes e x

@@ -23,14 +23,14 @@ use Rattle.rules.proofs.Logic.{left_true, right_true}
 use Rattle.rules.proofs.Ranges.{bytes_append, bytes_take, bytes_drop, bytes_at}
 use Rattle.rules.proofs.Rest.{measure_small, move_full, settle_rests}
 use Rattle.fifos.specs.Fifos.{sent_of}
-use Rattle.fifos.specs.declared.sent.Sent.{Sent}
+use Rattle.rules.specs.declared.chip.Fifo.{Fifo}
 use Rattle.fifos.proofs.Laws.{sent_count}
 use Rattle.image.specs.Image.{IsImage, image_of, state_at}
 use Rattle.image.specs.Layout.{counter_low_place, host_bytes_place, host_count_place, last_place, offset_place, scsi_bytes_place, scsi_count_place}
 use Rattle.laws.proofs.Lists.{drop_take}
 use Rattle.datapath.proofs.Ends.{scsi_behind}
 use Rattle.datapath.proofs.Fronts.{placed_at}
-use Rattle.datapath.proofs.Heads.{low, offset_stored_lem}
+use Rattle.datapath.proofs.Heads.{byte_laid, offset_stored_lem}
 use Rattle.settling.specs.Blocks.{start_of, movable, carried, moved_by}
 use Rattle.settling.specs.Settles.{Settles, end_of}
 use Rattle.settling.proofs.Runs.{run_keeps, run_ends}
@@ -192,13 +192,13 @@ unfolding conditions
 path_open s e = right_true s.registers.sxfrctl0.scsien _ (left_true _ (matched s) e)
 
 -- the bytes handed back
-pub oldest_sent : (m : List ℕ) (i : IsImage m) (n : ℕ) → n ≤ length (state_at m).transfer.host → (b : List ℕ) → b ≡ padded 8 (take n (drop host_bytes_place m)) → ◌≡◌ {A = Sent} (record { bytes = b; count = n }) (sent_of (take n (state_at m).transfer.host))
+pub oldest_sent : (m : List ℕ) (i : IsImage m) (n : ℕ) → n ≤ length (state_at m).transfer.host → (b : List ℕ) → b ≡ padded 8 (take n (drop host_bytes_place m)) → ◌≡◌ {A = Fifo 8} (record { bytes = b; count = n }) (sent_of (take n (state_at m).transfer.host))
 oldest_sent m i n h b e =
     let f : b ≡ padded 8 (take n (state_at m).transfer.host) = e ∙ ap (padded 8) (oldest m i n h) in
     let g : n ≡ length (take n (state_at m).transfer.host) = sym (length-take-le n (state_at m).transfer.host h) in
     cc
 
-pub none_sent : {v : Sent} (l : List ℕ) → v ≡ sent_of l → v.count ≡ 0 → v ≡ sent_of []
+pub none_sent : {v : Fifo 8} (l : List ℕ) → v ≡ sent_of l → v.count ≡ 0 → v ≡ sent_of []
 none_sent [] e h = e
 none_sent {v} (x ∷ l) e h = absurd (omega (arith, sent_count v (x ∷ l) e))
 
@@ -246,7 +246,7 @@ module _ (m : List ℕ) (i : IsImage m) (n : ℕ) where
       let v : k ≡ counter_byte 0 t.counter + n = d ∙ ap (λ (j : ℕ). j + n) (ap (λ (y : List ℕ). get_or y counter_low_place 0) i.packed ∙ low_at s) in
       let c = low_more t.counter n k v l in
       let q : set (set m last_place b) offset_place o ≡ image_of x = both_stored s i.packed (e ∙ newest g h) f in
-      low x q k c.0 ∙ ap (λ (y : ℕ). image_of (with_counter y x)) c.1
+      byte_laid x q 0 k (omega arith) c.0 ∙ ap (λ (y : ℕ). image_of (with_counter y x)) c.1
 
   -- n bytes gone, and j more in the SCSI FIFO
   behind_them : (j : ℕ) → n + j ≤ length t.host → take j (drop (host_bytes_place + n) m) ≡ take j (drop n t.host)
@@ -334,7 +334,7 @@ module _ {m : List ℕ} {n : ℕ} (g : GoesOut m n) {m₁ : List ℕ} (e₁ : m�
       cc
 
   -- ALL OF IT IS WHAT SETTLING DOES
-  pub out_settles : {m₂ : List ℕ} {r : Sent}
+  pub out_settles : {m₂ : List ℕ} {r : Fifo 8}
       → m₂ ≡ image_of (with_transfer (carried true (min (length (state_at m₁).transfer.host - n) 8) (transfer_with_host (drop n (state_at m₁).transfer.host) (state_at m₁).transfer)) (state_at m₁))
       → r ≡ sent_of (take n h) → Settles m (conditions x) m₂ (record { moves = (end_of m (conditions x)).moves; acks = n; sent = r })
   out_settles e₂ d =

@@ -22,7 +22,7 @@ use Rattle.rules.proofs.Reports.{step_fits}
 use Rattle.rules.proofs.Rest.{settling_reports}
 use Rattle.image.specs.Image.{IsImage, state_at}
 use Rattle.fifos.specs.Fifos.{sent_view, sent_of}
-use Rattle.fifos.specs.declared.sent.Sent.{Sent}
+use Rattle.rules.specs.declared.chip.Fifo.{Fifo}
 use Rattle.fifos.proofs.Behind.{view_of}
 use Rattle.event.specs.Outcomes.{Leaves}
 use Rattle.event.specs.declared.stepping.Outcome.{Outcome}
@@ -56,9 +56,9 @@ writes_take (suc k) (x ∷ y ∷ l) h =
     ∙ ap (λ (r : List (List ℕ)). word_write x y ∷ r) (writes_take k l (omega arith))
 
 -- the bytes sent
-module _ (l : List ℕ) {x : Sent} (e : x ≡ sent_of l) where
+module _ (l : List ℕ) {x : Fifo 8} (e : x ≡ sent_of l) where
   sent_count : x.count ≡ length l
-  sent_count = ap (λ (y : Sent). y.count) e
+  sent_count = ap (λ (y : Fifo 8). y.count) e
 
   sent_view_lem : sent_view x ≡ l
   sent_view_lem = ap sent_view e ∙ view_of l
@@ -166,7 +166,7 @@ module _ {x : Strung} {before bytes : List ℕ} {words : ℕ} {m out : List ℕ}
         ∙ writes_split k (words - (d + k)) left
         ∙ ap (λ (l : List ℕ). word_writes k left ++ word_writes (words - (d + k)) l) (drop-drop (2 * k) (2 * d) bytes ∙ ap (λ (j : ℕ). drop j bytes) twice)
 
-    module _ {m' : List ℕ} {r : Sent} (b : IsBlock at (host ++ block) m' r) where
+    module _ {m' : List ℕ} {r : Fifo 8} (b : IsBlock at (host ++ block) m' r) where
       abbrev sent : List ℕ
       sent = (block_settled at (host ++ block)).sent
 

@@ -4,14 +4,14 @@ use Rattle.rules.specs.State.{State}
 use Rattle.rules.specs.Ranges.{Bytes}
 use Rattle.image.specs.Image.{image_of}
 use Rattle.fifos.specs.Fifos.{sent_of}
-use Rattle.fifos.specs.declared.sent.Sent.{Sent}
+use Rattle.rules.specs.declared.chip.Fifo.{Fifo}
 use Rattle.words.specs.Words.{Strung, strung, word_writes, word_reads, word_bytes}
 use Rattle.words.specs.Calls.{stored_in}
 use Rattle.words.specs.Blocks.{block_settled, block_left}
 use Rattle.strings.specs.declared.Passed.{Passed}
 
 -- the host FIFO has become h: what settling leaves and sends
-pub record IsBlock (s : State) (h m : List ℕ) (r : Sent) : Type 0 where
+pub record IsBlock (s : State) (h m : List ℕ) (r : Fifo 8) : Type 0 where
   pub image : m ≡ image_of (block_left s h)
   pub sent : r ≡ sent_of (block_settled s h).sent
 

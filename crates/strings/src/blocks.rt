@@ -8,23 +8,18 @@ ghost use Rattle.rules.specs.Changed.{with_host};
 ghost use Rattle.strings.specs.Passed.{IsBlock};
 
 use crate::sending::{acknowledged_by, filled_behind, goes_out, oldest_of};
-use datapath::copies::wide;
-use fifos::sent::Sent;
+use fifos::Sent;
 use image::layout::{HOST_BYTES, HOST_COUNT, Image, OFFSET};
 use interrupts::status::fallen_in;
-use laws::smaller;
 use settling::settle;
 
-// n bytes of a run at a place of the array: the loop alone, with no FIFO in its contract.
+// n bytes of a run at a place of the array: the copy alone, with no FIFO in its contract.
 fn laid_at(m: &mut Image, at: usize, bytes: &[u8], from: usize, n: usize)
-    requires m_len { length m.old ≡ image_size }
     requires n_bound { at + n ≤ image_size }
     requires n_in_bounds { from + n ≤ length bytes.now }
     ensures { m.new ≡ paste m.old at (drop from bytes.now) n }
 {
-    for i in 0..n {
-        m[at + i] = bytes[from + i];
-    }
+    m[at..at + n].copy_from_slice(&bytes[from..from + n]);
 }
 
 // n bytes of a run behind those of the host FIFO.
@@ -34,7 +29,7 @@ pub fn host_filled(m: &mut Image, bytes: &[u8], from: usize, n: usize)
     requires n_len_bound { length (state_at m.old).transfer.host + n ≤ 128 }
     ensures { m.new ≡ image_of (with_host ((state_at m.old).transfer.host ++ take n (drop from bytes.now)) (state_at m.old)) }
 {
-    let held = wide(m[HOST_COUNT]);
+    let held = usize::from(m[HOST_COUNT]);
     laid_at(m, HOST_BYTES + held, bytes, from, n);
     m[HOST_COUNT] = (held + n) as u8;
 }
@@ -46,9 +41,7 @@ pub fn host_copied(m: &Image, n: usize, out: &mut [u8], at: usize)
     requires n_in_bounds_2 { at + n ≤ length out.old }
     ensures { out.new ≡ (take at out.old ++ take n (state_at m.now).transfer.host) ++ drop (at + n) out.old }
 {
-    for i in 0..n {
-        out[at + i] = m[HOST_BYTES + i];
-    }
+    out[at..at + n].copy_from_slice(&m[HOST_BYTES..HOST_BYTES + n]);
 }
 
 // The bytes that one settling sent, at a place of a lent buffer.
@@ -57,11 +50,7 @@ pub fn sent_stored(s: Sent, out: &mut [u8], at: usize)
     requires count_in_bounds { at + s.count ≤ length out.old }
     ensures { out.new ≡ (take at out.old ++ sent_view s) ++ drop (at + s.count) out.old }
 {
-    let bytes = s.bytes;
-    let n = s.count;
-    for i in 0..n {
-        out[at + i] = bytes[i];
-    }
+    out[at..at + s.count].copy_from_slice(&s.bytes[..s.count]);
 }
 
 // Settling of what the host FIFO has become, once for all of a block, and REQINIT as D leaves it.
@@ -69,7 +58,7 @@ pub fn settled_in(m: &mut Image) -> Sent
     requires { IsImage m.old }
     ensures { IsBlock (state_at m.old) (state_at m.old).transfer.host m.new result }
 {
-    let n = smaller(wide(m[OFFSET]), wide(m[HOST_COUNT]));
+    let n = usize::from(m[OFFSET].min(m[HOST_COUNT]));
     if goes_out(m, n) {
         let sent = oldest_of(m, n);
         acknowledged_by(m, n);
@@ -81,8 +70,7 @@ pub fn settled_in(m: &mut Image) -> Sent
     fallen_in(m, t.acks);
     // Most often there are none, and what settling left of them is not looked at.
     if t.sent.count == 0 {
-        return fifos::sent::none();
+        return fifos::empty();
     }
-    let sent = t.sent;
-    sent
+    t.sent
 }

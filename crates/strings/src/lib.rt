@@ -12,6 +12,7 @@ pub mod write_call;
 pub mod writing;
 
 // What a call hands back: the words done, the bytes stored in the lent buffer, and the refusal that stopped it.
+// No Result, here and below: the words before a refusal are done, so both count.
 #[derive(Clone, Copy)]
 pub struct Passed {
     pub done: usize,

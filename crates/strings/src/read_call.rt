@@ -1,4 +1,5 @@
 // The read call of a chip by value, which is laid out once and taken up again at the end.
+// The write call has the same three steps: a function that takes the middle one as a closure needs more clauses than it saves lines.
 ghost use Rattle.strings.specs.Fetching.{IsReadCall};
 
 use crate::Fetched;
@@ -16,7 +17,7 @@ pub fn read_words(c: Chip, words: usize, out: &mut [u8]) -> Fetched
     let chip = tidied(c);
     if !is_readable(out.len(), words) {
         return Fetched {
-            chip: chip,
+            chip,
             done: 0,
             code: Code::Malformed,
         };
@@ -24,11 +25,9 @@ pub fn read_words(c: Chip, words: usize, out: &mut [u8]) -> Fetched
     let mut m = [0u8; SIZE];
     chips::store(chip, &mut m);
     let r = fetched_over(&mut m, words, out);
-    let last = chips::load(&m);
-    let code = r.code;
     Fetched {
-        chip: last,
+        chip: chips::load(&m),
         done: r.done,
-        code: code,
+        code: r.code,
     }
 }

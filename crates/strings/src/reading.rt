@@ -6,12 +6,9 @@ ghost use Rattle.strings.specs.Fetching.{IsBlockFetched};
 
 use crate::Passed;
 use crate::blocks::{host_copied, settled_in};
-use datapath::copies::wide;
 use datapath::host::host_popped;
 use event::stepping::outcome_of;
 use image::layout::{HOST_COUNT, Image, SIZE};
-use laws::smaller;
-use rules::code_number;
 use rules::codes::Code;
 
 // n bytes off the front of the host FIFO into a lent buffer, as a block.
@@ -35,12 +32,11 @@ fn first_fetched(m: &mut Image, out: &mut [u8]) -> Passed
     let word = [0x80u8, 0, 0, 0];
     let mut spare = [0u8; SIZE];
     let o = outcome_of(m, &word, &mut spare);
-    let code = o.code;
-    if code_number(code) != 0 {
+    if o.code != Code::Done {
         return Passed {
             done: 0,
             count: 0,
-            code: code,
+            code: o.code,
         };
     }
     out[0] = (o.value % 256) as u8;
@@ -48,7 +44,7 @@ fn first_fetched(m: &mut Image, out: &mut [u8]) -> Passed
     Passed {
         done: 1,
         count: 2,
-        code: code,
+        code: o.code,
     }
 }
 
@@ -70,12 +66,12 @@ pub fn fetched_over(m: &mut Image, words: usize, out: &mut [u8]) -> Passed
         return first;
     }
     let mut done = 1;
-    let mut held = wide(m[HOST_COUNT]);
+    let mut held = usize::from(m[HOST_COUNT]);
     while (done < words) & (1 < held) {
-        let k = smaller(words - done, held / 2);
+        let k = (words - done).min(held / 2);
         block_fetched(m, 2 * k, out, 2 * done);
-        done = done + k;
-        held = wide(m[HOST_COUNT]);
+        done += k;
+        held = usize::from(m[HOST_COUNT]);
     }
     let code = if done == words {
         Code::Done
@@ -83,8 +79,8 @@ pub fn fetched_over(m: &mut Image, words: usize, out: &mut [u8]) -> Passed
         Code::NoBytes
     };
     Passed {
-        done: done,
+        done,
         count: 2 * done,
-        code: code,
+        code,
     }
 }

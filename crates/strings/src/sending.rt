@@ -6,14 +6,12 @@ ghost use Rattle.rules.specs.Changed.{with_transfer, with_counter, with_offset, 
 ghost use Rattle.rules.specs.StepC.{conditions};
 ghost use Rattle.settling.specs.Blocks.{carried};
 
-use datapath::copies::wide;
 use datapath::host::host_popped;
-use fifos::sent::Sent;
+use fifos::Sent;
 use image::copies::copied;
 use image::layout::{
     COUNTER_LOW, HOST_BYTES, HOST_COUNT, Image, LAST, OFFSET, SCSI_BYTES, SCSI_COUNT,
 };
-use laws::smaller;
 use settling::conditions_of;
 
 // Whether n bytes go out at once; not where the counter's low byte would carry, which is seldom.
@@ -29,7 +27,7 @@ pub fn goes_out(m: &Image, n: usize) -> bool
     if 0 < m[SCSI_COUNT] {
         return false;
     }
-    if 255 < wide(m[COUNTER_LOW]) + n {
+    if 255 < usize::from(m[COUNTER_LOW]) + n {
         return false;
     }
     let c = conditions_of(m);
@@ -44,13 +42,8 @@ pub fn oldest_of(m: &Image, n: usize) -> Sent
     ensures { result ≡ sent_of (take n (state_at m.now).transfer.host) }
 {
     let mut bytes = [0u8; 8];
-    for i in 0..n {
-        bytes[i] = m[HOST_BYTES + i];
-    }
-    Sent {
-        bytes: bytes,
-        count: n,
-    }
+    bytes[..n].copy_from_slice(&m[HOST_BYTES..HOST_BYTES + n]);
+    Sent { bytes, count: n }
 }
 
 // What the ACKs of the n oldest bytes leave: the byte last sent, the offset and the counter.
@@ -62,6 +55,7 @@ pub fn acknowledged_by(m: &mut Image, n: usize)
     requires n_bound_2 { (state_at m.old).transfer.counter % 256 + n < 256 }
     ensures { m.new ≡ image_of (with_counter ((state_at m.old).transfer.counter + n) (with_offset ((state_at m.old).transfer.offset - n) (with_last (get_or (state_at m.old).transfer.host (n - 1) 0) (state_at m.old)))) }
 {
+    // Both are read first: a proof knows what stood there before a store, and of a read behind one only by one step more each.
     let open = m[OFFSET];
     let low = m[COUNTER_LOW];
     m[LAST] = m[HOST_BYTES + (n - 1)];
@@ -76,7 +70,7 @@ pub fn filled_behind(m: &mut Image, n: usize)
     requires n_in_bounds { n ≤ length (state_at m.old).transfer.host }
     ensures { m.new ≡ image_of (with_transfer (carried true (min (length (state_at m.old).transfer.host - n) 8) (transfer_with_host (drop n (state_at m.old).transfer.host) (state_at m.old).transfer)) (state_at m.old)) }
 {
-    let k = smaller(wide(m[HOST_COUNT]) - n, 8);
+    let k = (usize::from(m[HOST_COUNT]) - n).min(8);
     copied(m, HOST_BYTES + n, SCSI_BYTES, k);
     m[SCSI_COUNT] = k as u8;
     host_popped(m, n + k);

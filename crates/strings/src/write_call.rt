@@ -16,7 +16,7 @@ pub fn write_words(c: Chip, bytes: &[u8], words: usize, out: &mut [u8]) -> Writt
     let chip = tidied(c);
     if !is_writable(bytes.len(), words, out.len()) {
         return Written {
-            chip: chip,
+            chip,
             done: 0,
             sent: 0,
             code: Code::Malformed,
@@ -25,12 +25,10 @@ pub fn write_words(c: Chip, bytes: &[u8], words: usize, out: &mut [u8]) -> Writt
     let mut m = [0u8; SIZE];
     chips::store(chip, &mut m);
     let r = written_over(&mut m, bytes, words, out);
-    let last = chips::load(&m);
-    let code = r.code;
     Written {
-        chip: last,
+        chip: chips::load(&m),
         done: r.done,
         sent: r.count,
-        code: code,
+        code: r.code,
     }
 }

@@ -7,12 +7,9 @@ ghost use Rattle.strings.specs.Passed.{IsBlock, IsWritten, FirstWritten};
 
 use crate::Passed;
 use crate::blocks::{host_filled, sent_stored, settled_in};
-use datapath::copies::wide;
 use event::stepping::outcome_of;
-use fifos::sent::Sent;
+use fifos::Sent;
 use image::layout::{HOST_COUNT, Image, SIZE};
-use laws::smaller;
-use rules::code_number;
 use rules::codes::Code;
 
 // n bytes of a run as a block.
@@ -37,21 +34,18 @@ fn first_written(m: &mut Image, bytes: &[u8], out: &mut [u8]) -> Passed
     let word = [0x60u8, 0, bytes[1], bytes[0]];
     let mut spare = [0u8; SIZE];
     let o = outcome_of(m, &word, &mut spare);
-    let code = o.code;
-    if code_number(code) != 0 {
+    if o.code != Code::Done {
         return Passed {
             done: 0,
             count: 0,
-            code: code,
+            code: o.code,
         };
     }
-    let sent = o.sent;
-    let n = sent.count;
-    sent_stored(sent, out, 0);
+    sent_stored(o.sent, out, 0);
     Passed {
         done: 1,
-        count: n,
-        code: code,
+        count: o.sent.count,
+        code: o.code,
     }
 }
 
@@ -60,7 +54,7 @@ fn room_in(m: &Image) -> usize
     requires { IsImage m.now }
     ensures { result ≡ (128 - length (state_at m.now).transfer.host) / 2 }
 {
-    (128 - wide(m[HOST_COUNT])) / 2
+    (128 - usize::from(m[HOST_COUNT])) / 2
 }
 
 // "write and host FIFO lacks room for the whole access" stops words that are left.
@@ -96,18 +90,16 @@ pub fn written_over(m: &mut Image, bytes: &[u8], words: usize, out: &mut [u8]) -
     let mut count = first.count;
     let mut room = room_in(m);
     while (done < words) & (0 < room) {
-        let k = smaller(words - done, room);
+        let k = (words - done).min(room);
         let sent = block_written(m, bytes, 2 * done, 2 * k);
-        let n = sent.count;
         sent_stored(sent, out, count);
-        count = count + n;
-        done = done + k;
+        count += sent.count;
+        done += k;
         room = room_in(m);
     }
-    let code = ended(done, words);
     Passed {
-        done: done,
-        count: count,
-        code: code,
+        done,
+        count,
+        code: ended(done, words),
     }
 }

@@ -5,34 +5,14 @@ use mathlib.Core.Bool.{Bool, true, false}
 use mathlib.Core.List.{List}
 use lib.ListN.{length}
 use Rattle.rules.specs.Codes.{number_of}
-use Rattle.rules.specs.Ranges.{Bytes}
 use Rattle.rules.specs.declared.codes.Code.TheVariants.{Malformed}
-use Rattle.rules.proofs.Logic.{never}
-use Rattle.image.specs.Image.{IsImage, image_of, state_at}
-use Rattle.image.specs.Layout.{image_size}
+use Rattle.image.specs.Image.{IsImage, state_at}
 use Rattle.saved.specs.Accepted.{accepted}
-use Rattle.saved.proofs.Acceptance.{accepted_acceptable}
-use Rattle.saved.proofs.Lent.{length_refused}
-use Rattle.words.specs.Words.{word_writes, word_reads}
 use Rattle.words.specs.Calls.{Wrote, Fetched, readable, writable, wrote_of, fetched_of, not_written, not_fetched, written_words, fetched_words}
 use Rattle.strings.specs.Passed.{IsWritten, IsFetched}
 use Rattle.strings.specs.declared.Passed.{Passed}
-use Rattle.strings.proofs.Leaves.{image_strung}
 use Rattle.strings.proofs.Fits.{write_fits, write_misfits, read_fits, read_misfits}
-use Rattle.wordhost.specs.WordCalls.{image_written, image_fetched, LeftWrite, LeftFetch, IsWordsWritten, IsWordsRead, IsTaken}
-
--- THE COPY OF AN IMAGE
-pub not_taken : (image m : List ℕ) → (length image ≡ image_size → ⊥) → IsTaken image m false
-not_taken image m h =
-    record {
-      tested = sym (length_refused image h);
-      copied = λ e. absurd (never e);
-      sound = λ e. absurd (never e);
-    }
-
-pub tested : {image m : List ℕ} {b : Bool} → m ≡ image → Bytes m → b ≡ accepted m → IsTaken image m b
-tested {m = m} e k t =
-    record { tested = t ∙ ap accepted e; copied = λ h. e; sound = λ h. (accepted_acceptable m k (sym t ∙ h)).image }
+use Rattle.wordhost.specs.WordCalls.{image_written, image_fetched, LeftWrite, LeftFetch, IsWordsWritten, IsWordsRead}
 
 -- "Code 1 before any word"
 abbrev pub not_done : Passed
@@ -61,17 +41,6 @@ module _ {m : List ℕ} (i : IsImage m) (bytes : List ℕ) (words : ℕ) (before
       subst (λ (x : Wrote). IsWordsWritten x n out r) (sym (write_fits (state_at m) bytes words before e))
       (record { image = f.image; done = f.done; count = f.count; buffer = f.buffer; code = f.code })
 
-  pub written_image : {n out : List ℕ} {r : Passed} → IsWordsWritten (written_words (state_at m) bytes words before) n out r → IsImage n
-  unfolding wrote_of not_written
-  written_image {n} w = go fits refl
-    where
-      left : {x : Wrote} → written_words (state_at m) bytes words before ≡ x → n ≡ image_of x.state
-      left e = w.image ∙ ap (λ (y : Wrote). image_of y.state) e
-
-      go : (b : Bool) → fits ≡ b → IsImage n
-      go true e = image_strung i (word_writes words bytes) (left (write_fits (state_at m) bytes words before e))
-      go false e = subst IsImage (i.packed ∙ sym (left (write_misfits (state_at m) bytes words before e))) i
-
 -- WORDS READ
 module _ {m : List ℕ} (i : IsImage m) (words : ℕ) (before : List ℕ) where
   pub not_read : readable (length before) words ≡ false → {r : Passed} → r ≡ not_done → IsWordsRead (fetched_words (state_at m) words before) m before r
@@ -85,17 +54,6 @@ module _ {m : List ℕ} (i : IsImage m) (words : ℕ) (before : List ℕ) where
   all_read e {n} {out} {r} f =
       subst (λ (x : Fetched). IsWordsRead x n out r) (sym (read_fits (state_at m) words before e))
       (record { image = f.image; done = f.done; buffer = f.buffer; code = f.code })
-
-  pub read_image : {n out : List ℕ} {r : Passed} → IsWordsRead (fetched_words (state_at m) words before) n out r → IsImage n
-  unfolding fetched_of not_fetched
-  read_image {n} w = go (readable (length before) words) refl
-    where
-      left : {x : Fetched} → fetched_words (state_at m) words before ≡ x → n ≡ image_of x.state
-      left e = w.image ∙ ap (λ (y : Fetched). image_of y.state) e
-
-      go : (b : Bool) → readable (length before) words ≡ b → IsImage n
-      go true e = image_strung i (word_reads words) (left (read_fits (state_at m) words before e))
-      go false e = subst IsImage (i.packed ∙ sym (left (read_misfits (state_at m) words before e))) i
 
 -- THE WRITE CALL
 module _ (image bytes : List ℕ) (words : ℕ) (before : List ℕ) where

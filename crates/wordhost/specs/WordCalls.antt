@@ -1,7 +1,7 @@
 -- R-3: the string calls over an image, each an equality for what it returns and for every lent slice and place.
-use Rattle.std.specs.Prelude.{ℕ, ◌≡◌, Bool, true, cond, List}
+use Rattle.std.specs.Prelude.{ℕ, ◌≡◌, cond, List}
 use Rattle.rules.specs.Codes.{number_of}
-use Rattle.image.specs.Image.{IsImage, image_of, state_at}
+use Rattle.image.specs.Image.{image_of, state_at}
 use Rattle.saved.specs.Accepted.{accepted}
 use Rattle.strings.specs.declared.Passed.{Passed}
 use Rattle.words.specs.Calls.{Wrote, Fetched, written_words, fetched_words}
@@ -73,9 +73,3 @@ pub record IsWordsRead (x : Fetched) (m b : List ℕ) (r : Passed) : Type 0 wher
   pub done : r.done ≡ x.done
   pub buffer : b ≡ x.buffer
   pub code : r.code ≡ x.code
-
--- an image that was tested, and copied where it is accepted
-pub record IsTaken (image m : List ℕ) (b : Bool) : Type 0 where
-  pub tested : b ≡ accepted image
-  pub copied : b ≡ true → m ≡ image
-  pub sound : b ≡ true → IsImage m

@@ -5,7 +5,6 @@ ghost use Rattle.std.specs.Prelude.{◌≡◌};
 ghost use Rattle.wordhost.specs.WordCalls.{image_written, image_fetched, LeftWrite, LeftFetch};
 
 use crate::words_over::{image_read, image_written};
-use rules::code_number;
 
 mod words_over;
 
@@ -23,8 +22,7 @@ pub fn rabenteig_write_words(
     let r = image_written(image, bytes, words, out);
     *done = r.done;
     *count = r.count;
-    let code = r.code;
-    code_number(code)
+    u8::from(r.code)
 }
 
 // R-3: words read as one call to out; its code. done is the number of words done.
@@ -33,6 +31,5 @@ pub fn rabenteig_read_words(image: &mut [u8], out: &mut [u8], words: usize, done
 {
     let r = image_read(image, words, out);
     *done = r.done;
-    let code = r.code;
-    code_number(code)
+    u8::from(r.code)
 }

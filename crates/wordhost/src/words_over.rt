@@ -4,13 +4,11 @@ ghost use Rattle.image.specs.Image.{IsImage, state_at};
 ghost use Rattle.rules.specs.Codes.{number_of};
 ghost use Rattle.rules.specs.declared.codes.Code.TheVariants.{Malformed};
 ghost use Rattle.words.specs.Calls.{written_words, fetched_words};
-ghost use Rattle.wordhost.specs.WordCalls.{image_written, image_fetched, LeftWrite, LeftFetch, IsTaken, IsWordsWritten, IsWordsRead};
+ghost use Rattle.wordhost.specs.WordCalls.{image_written, image_fetched, LeftWrite, LeftFetch, IsWordsWritten, IsWordsRead};
 
 use image::layout::{Image, SIZE};
 use rules::codes::Code;
-use saved::bytes::known;
-use saved::copies::copy;
-use saved::is_accepted;
+use saved::slices::taken;
 use strings::Passed;
 use strings::reading::fetched_over;
 use strings::writing::written_over;
@@ -48,28 +46,16 @@ fn words_read(m: &mut Image, words: usize, out: &mut [u8]) -> Passed
     fetched_over(m, words, out)
 }
 
-// A slice is no array, so the image is tested and changed in a copy.
-fn is_taken(image: &[u8], m: &mut Image) -> bool
-    ensures { IsTaken image.now m.new result }
-{
-    if image.len() != SIZE {
-        return false;
-    }
-    copy(image, m);
-    known(m);
-    is_accepted(m)
-}
-
 // The calls on any slice; where it is no image that is accepted, no word is done.
 pub fn image_written(image: &mut [u8], bytes: &[u8], words: usize, out: &mut [u8]) -> Passed
     ensures { LeftWrite (image_written image.old bytes.now words out.old) image.new result.done result.count out.new (number_of result.code) }
 {
     let mut m = [0u8; SIZE];
-    if !is_taken(image, &mut m) {
+    let Ok(()) = taken(image, &mut m) else {
         return not_done();
-    }
+    };
     let r = words_written(&mut m, bytes, words, out);
-    copy(&m, image);
+    image.copy_from_slice(&m);
     r
 }
 
@@ -77,10 +63,10 @@ pub fn image_read(image: &mut [u8], words: usize, out: &mut [u8]) -> Passed
     ensures { LeftFetch (image_fetched image.old words out.old) image.new result.done out.new (number_of result.code) }
 {
     let mut m = [0u8; SIZE];
-    if !is_taken(image, &mut m) {
+    let Ok(()) = taken(image, &mut m) else {
         return not_done();
-    }
+    };
     let r = words_read(&mut m, words, out);
-    copy(&m, image);
+    image.copy_from_slice(&m);
     r
 }

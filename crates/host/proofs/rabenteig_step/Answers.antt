@@ -1,35 +1,7 @@
-use mathlib.Core.Path.{refl, ap, sym, ◌∙◌}
-use mathlib.Core.Bool.{not}
-use Rattle.saved.proofs.Acceptance.{accepted_acceptable, acceptable_length}
-use Rattle.saved.proofs.Lent.{length_refused, copy_refused, copy_accepted}
-use Rattle.host.proofs.OverImages.{call_refused_lem, call_done_lem, called_image}
+use Rattle.host.proofs.OverImages.{call_done_lem}
 use Rattle.host.proofs.rabenteig_step.Goals as goal
-
-pub returns-then-image-ne-SIZE : goal.returns-then-image-ne-SIZE
-returns-then-image-ne-SIZE c =
-    let a = c.args in
-    call_refused_lem a.image.now a.bytes.now a.answer.now (length_refused a.image.now c.if-image-ne-SIZE.true) c.refuse.ensures.answer_after c.refuse.ensures.value
-
-pub returns-then-not-is_accepted : goal.returns-then-not-is_accepted
-returns-then-not-is_accepted c =
-    let a = c.args in
-    call_refused_lem a.image.now a.bytes.now a.answer.now (copy_refused c.copy.ensures c.is_accepted.ensures (ap not c.if-not-is_accepted.true)) c.refuse-then-not-is_accepted.ensures.answer_after c.refuse-then-not-is_accepted.ensures.value
-
-pub step_over-code-requires : goal.step_over-code-requires
-step_over-code-requires c = (accepted_acceptable _ c.known.ensures.1 (copy_accepted refl c.is_accepted.ensures (ap not c.if-not-is_accepted.false))).image
-
-pub slice_bounds-copy-end-2 : goal.slice_bounds-copy-end-2
-slice_bounds-copy-end-2 c =
-    let g = accepted_acceptable _ c.known.ensures.1 (copy_accepted refl c.is_accepted.ensures (ap not c.if-not-is_accepted.false)) in
-    sym (acceptable_length _ (called_image _ _ g c.step_over-code.ensures))
-
-pub copy-requires-2 : goal.copy-requires-2
-copy-requires-2 c =
-    let g = accepted_acceptable _ c.known.ensures.1 (copy_accepted refl c.is_accepted.ensures (ap not c.if-not-is_accepted.false)) in
-    acceptable_length _ (called_image _ _ g c.step_over-code.ensures) ∙ sym c.if-image-ne-SIZE.false
 
 pub returns : goal.returns
 returns c =
     let a = c.args in
-    let e = c.copy.ensures in
-    call_done_lem a.image.now a.bytes.now a.answer.now (copy_accepted e c.is_accepted.ensures (ap not c.if-not-is_accepted.false)) e c.step_over-code.ensures c.copy-2.ensures
+    call_done_lem a.image.now a.bytes.now a.answer.now c.in-Ok.ensures.0 c.in-Ok.ensures.1 c.step_over-code.ensures c.copy_from_slice.ensures.after

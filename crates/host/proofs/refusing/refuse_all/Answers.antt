@@ -10,7 +10,7 @@ use borrow.Author.Rules.{rules}
 use Rattle.host.proofs.refusing.refuse_all.Goals as goal
 
 pub loop-i-init : goal.loop-i-init
-loop-i-init c = (search rules, c.smaller-n.ensures, omega arith, refl, search rules, refl)
+loop-i-init c = (search rules, omega (arith, c.min-n.ensures, c.div_ceil.ensures), omega arith, refl, search rules, refl)
 
 pub store_at-requires : goal.store_at-requires
 store_at-requires c = omega (arith, c.loop-i.invariant.2, c.loop-i-test.true)
@@ -21,13 +21,13 @@ loop-i-preserved c =
     let l = c.loop-i in
     let a = c.args in
     let same = c.store_at.auto.out in
-    (omega (arith, l.invariant.0, t), l.invariant.1, omega (arith, l.invariant.2, same), omega (arith, l.invariant.3, same), l.invariant.4, refusals_more l.i a.answers.now l.invariant.5 c.refused_answer-b.ensures c.store_at.ensures)
+    (omega (arith, l.invariant.0, t), l.invariant.1, omega (arith, l.invariant.2, same), omega (arith, l.invariant.3, same), l.invariant.4, refusals_more l.i a.answers.now l.invariant.5 c.refused_answer.ensures c.store_at.ensures)
 
 pub returns : goal.returns
 returns c =
     let l = c.loop-i in
     let a = c.args in
-    let e : l.i ≡ c.smaller-n.result = omega arith in
+    let e : l.i ≡ c.min-n.result = omega arith in
     let k : l.i ≡ stepped_in a.records.now a.answers.now = e ∙ l.invariant.1 in
     record { count = l.invariant.1; answers = l.invariant.5 ∙ ap (λ (j : ℕ). refusals j ++ drop (16 * j) a.answers.now) k }
 

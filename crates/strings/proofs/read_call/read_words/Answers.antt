@@ -27,12 +27,12 @@ fetched_over-r-requires c =
     let a = c.args in
     record { image = c.store.ensures.sound; out_len = readable_length (length a.out.now) a.words (fits (goal.at.fetched_over-r-requires c).Else-not-is_readable) }
 
-pub load-last-requires : goal.load-last-requires
-load-last-requires c =
+pub load-requires : goal.load-requires
+load-requires c =
     let a = c.args in
     image_read c.tidied-chip.ensures a.words a.out.now c.store.ensures c.fetched_over-r.ensures
 
 pub returns : goal.returns
 returns c =
     let a = c.args in
-    all_read c.tidied-chip.ensures a.words a.out.now c.store.ensures c.fetched_over-r.ensures (fits (goal.at.returns c).Else-not-is_readable) c.load-last.ensures
+    all_read c.tidied-chip.ensures a.words a.out.now c.store.ensures c.fetched_over-r.ensures (fits (goal.at.returns c).Else-not-is_readable) c.load.ensures

@@ -15,12 +15,12 @@ returns-then-n-eq0 c = record { n_nonzero = λ e. absurd (never e); m_value = λ
 pub returns-then-m-gt0 : goal.returns-then-m-gt0
 returns-then-m-gt0 c = record { n_nonzero = λ e. absurd (never e); m_value = λ e. absurd (never e) }
 
-pub returns-then-wide-n-gt255 : goal.returns-then-wide-n-gt255
-returns-then-wide-n-gt255 c = record { n_nonzero = λ e. absurd (never e); m_value = λ e. absurd (never e) }
+pub returns-then-from-n-gt255 : goal.returns-then-from-n-gt255
+returns-then-from-n-gt255 c = record { n_nonzero = λ e. absurd (never e); m_value = λ e. absurd (never e) }
 
-pub overflow_add-wide : goal.overflow_add-wide
-overflow_add-wide c =
-    omega (arith, c.wide.ensures, low_held c.args.m.now c.requires.image c.args.n, c.requires.n_bound)
+pub overflow_add-from : goal.overflow_add-from
+overflow_add-from c =
+    omega (arith, c.from.ensures, low_held c.args.m.now c.requires.image c.args.n, c.requires.n_bound)
 
 pub returns : goal.returns
 unfolding looked_at
@@ -31,7 +31,7 @@ returns c =
       n_nonzero = λ h. (
         omega (arith, c.if-n-eq0.false),
         none_held (state_at m).transfer.scsi (omega (arith, c.if-m-gt0.false, scsi_held m c.requires.image)),
-        omega (arith, c.if-wide-n-gt255.false, c.wide.ensures, low_held m c.requires.image c.args.n),
+        omega (arith, c.if-from-n-gt255.false, c.from.ensures, low_held m c.requires.image c.args.n),
       );
       m_value = λ h.
           let both = left_true (r.enabled && r.outbound) r.synchronous h in (

@@ -29,8 +29,8 @@ written_over-r-requires c =
     let room = length a.out.now in
     record { image = c.store.ensures.sound; bytes_len = writable_length bytes a.words room (fits (goal.at.written_over-r-requires c).Else-not-is_writable); words_in_bounds = writable_room bytes a.words room (fits (goal.at.written_over-r-requires c).Else-not-is_writable) }
 
-pub load-last-requires : goal.load-last-requires
-load-last-requires c =
+pub load-requires : goal.load-requires
+load-requires c =
     let a = c.args in
     image_written_lem c.tidied-chip.ensures a.bytes.now a.words a.out.now c.store.ensures c.written_over-r.ensures
 
@@ -38,4 +38,4 @@ pub returns : goal.returns
 returns c =
     let a = c.args in
     all_written c.tidied-chip.ensures a.bytes.now a.words a.out.now c.store.ensures c.written_over-r.ensures (fits (goal.at.returns c).Else-not-is_writable)
-    c.load-last.ensures
+    c.load.ensures

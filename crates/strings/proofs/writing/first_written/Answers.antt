@@ -1,7 +1,7 @@
-use mathlib.Core.Path.{sym, ◌∙◌}
 use native.Mathlib.Omega.{arith}
 use Rattle.rules.specs.Ranges.{Bytes}
 use Rattle.words.proofs.Keeps.{by_elements}
+use Rattle.strings.proofs.Codes.{refused, accepted}
 use Rattle.strings.proofs.First.{word_refused}
 use Rattle.strings.proofs.WordsWritten.{word_written_lem, few_sent, first_stored}
 use Rattle.strings.proofs.writing.first_written.Goals as goal
@@ -11,11 +11,11 @@ use Rattle.strings.proofs.writing.first_written.Goals.{After-outcome_of-o}
 known : (c : After-outcome_of-o) → Bytes c.args.bytes.now
 known c = by_elements c.args.bytes.now (λ k. omega (arith, c.shared_slice_known-3-1.given k))
 
-pub returns-then-code_number-ne0 : goal.returns-then-code_number-ne0
-returns-then-code_number-ne0 c =
+pub returns-then-ne : goal.returns-then-ne
+returns-then-ne c =
     record {
-      known = known (goal.at.returns-then-code_number-ne0 c).After-outcome_of-o;
-      passed = word_refused (word_written_lem _ c.requires.image.range c.args.bytes.now (known (goal.at.returns-then-code_number-ne0 c).After-outcome_of-o)) c.outcome_of-o.ensures (λ e. c.if-code_number-ne0.true (c.code_number.ensures ∙ e)) c.args.out.now;
+      known = known (goal.at.returns-then-ne c).After-outcome_of-o;
+      passed = word_refused (word_written_lem _ c.requires.image.range c.args.bytes.now (known (goal.at.returns-then-ne c).After-outcome_of-o)) c.outcome_of-o.ensures (refused c.outcome_of-o.result.code c.ne.result c.ne.ensures c.if-ne.true) c.args.out.now;
     }
 
 pub sent_stored-requires : goal.sent_stored-requires
@@ -27,5 +27,5 @@ pub returns : goal.returns
 returns c =
     record {
       known = known (goal.at.returns c).After-outcome_of-o;
-      passed = first_stored c.requires.image.range c.args.bytes.now c.outcome_of-o.ensures (known (goal.at.returns c).After-outcome_of-o) (sym c.code_number.ensures ∙ c.if-code_number-ne0.false) c.sent_stored.ensures;
+      passed = first_stored c.requires.image.range c.args.bytes.now c.outcome_of-o.ensures (known (goal.at.returns c).After-outcome_of-o) (accepted c.outcome_of-o.result.code c.ne.result c.ne.ensures c.if-ne.false) c.sent_stored.ensures;
     }

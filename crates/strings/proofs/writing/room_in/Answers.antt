@@ -4,13 +4,13 @@ use lib.ListN.{length}
 use Rattle.image.specs.Image.{state_at}
 use Rattle.settling.proofs.Carries.{host_held}
 use Rattle.strings.proofs.writing.room_in.Goals as goal
-use Rattle.strings.proofs.writing.room_in.Goals.{After-wide}
+use Rattle.strings.proofs.writing.room_in.Goals.{After-from}
 
-counted : (c : After-wide) → c.wide.result ≡ length (state_at c.args.m.now).transfer.host
-counted c = c.wide.ensures ∙ host_held c.args.m.now c.requires
+counted : (c : After-from) → c.from.result ≡ length (state_at c.args.m.now).transfer.host
+counted c = c.from.ensures ∙ host_held c.args.m.now c.requires
 
 pub overflow_sub-result : goal.overflow_sub-result
-overflow_sub-result c = omega (arith, counted (goal.at.overflow_sub-result c).After-wide, c.requires.range.transfer.host)
+overflow_sub-result c = omega (arith, counted (goal.at.overflow_sub-result c).After-from, c.requires.range.transfer.host)
 
 pub returns : goal.returns
-returns c = rw (counted (goal.at.returns c).After-wide)
+returns c = rw (counted (goal.at.returns c).After-from)

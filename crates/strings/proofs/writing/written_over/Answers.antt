@@ -11,7 +11,7 @@ use Rattle.strings.proofs.Leaves.{image_strung}
 use Rattle.strings.proofs.Going.{Turn, no_words, turned}
 use Rattle.strings.proofs.WordsWritten.{WriteRound, write_stops, write_begun, block_room, block_few, block_stores, image_after, next_written, all_written}
 use Rattle.strings.proofs.writing.written_over.Goals as goal
-use Rattle.strings.proofs.writing.written_over.Goals.{After-loop-done, After-smaller-k, In-loop-done}
+use Rattle.strings.proofs.writing.written_over.Goals.{After-loop-done, After-min-k, In-loop-done}
 
 -- what a turn finds
 abbrev Round : List ℕ → List ℕ → ℕ → List ℕ → List ℕ → List ℕ → ℕ → ℕ → ℕ → Type 0
@@ -30,8 +30,8 @@ at_end c =
     (write_begun c.requires.image c.args.words (omega (arith, c.if-words-eq0.false)) c.first_written-first.ensures c.if-first-eq0.false c.requires.bytes_len c.requires.words_in_bounds c.room_in-room.ensures)
 
 -- the words that it takes
-takes : (c : After-smaller-k) → Turn c.args.words c.loop-done.done c.loop-done.room c.smaller-k.result
-takes c = turned 0 c.loop-done.room c.loop-done-test.true (λ h. h) c.smaller-k.ensures
+takes : (c : After-min-k) → Turn c.args.words c.loop-done.done c.loop-done.room c.min-k.result
+takes c = turned 0 c.loop-done.room c.loop-done-test.true (λ h. h) c.min-k.ensures
 
 -- twice the words fit the machine's word, as their bytes do, and so does the buffer
 twice_fit : (c : In-loop-done) → 2 * c.args.words < 2 ^ 63
@@ -63,44 +63,44 @@ loop-done-init c x before k = k
 pub block_written-sent-requires : goal.block_written-sent-requires
 block_written-sent-requires c =
     let f = found (goal.at.block_written-sent-requires c).In-loop-done in
-    let t = takes (goal.at.block_written-sent-requires c).After-smaller-k in
+    let t = takes (goal.at.block_written-sent-requires c).After-min-k in
     record { image = f.round.image; bytes = f.known; n_in_bounds = omega (arith, f.size, t.few); n_len_bound = block_room f t }
 
 pub sent_stored-requires : goal.sent_stored-requires
 sent_stored-requires c =
     let f = found (goal.at.sent_stored-requires c).In-loop-done in
-    record { count_bound = block_few f (takes (goal.at.sent_stored-requires c).After-smaller-k) c.block_written-sent.ensures; count_in_bounds = block_stores f (takes (goal.at.sent_stored-requires c).After-smaller-k) c.block_written-sent.ensures }
+    record { count_bound = block_few f (takes (goal.at.sent_stored-requires c).After-min-k) c.block_written-sent.ensures; count_in_bounds = block_stores f (takes (goal.at.sent_stored-requires c).After-min-k) c.block_written-sent.ensures }
 
 pub overflow_add-count : goal.overflow_add-count
 overflow_add-count c =
     let f = found (goal.at.overflow_add-count c).In-loop-done in
-    omega (arith, out_fits (goal.at.overflow_add-count c).In-loop-done, f.round.goes.long, block_stores f (takes (goal.at.overflow_add-count c).After-smaller-k) c.block_written-sent.ensures)
+    omega (arith, out_fits (goal.at.overflow_add-count c).In-loop-done, f.round.goes.long, block_stores f (takes (goal.at.overflow_add-count c).After-min-k) c.block_written-sent.ensures)
 
 pub room_in-room-requires-in-loop-done : goal.room_in-room-requires-in-loop-done
 room_in-room-requires-in-loop-done c =
-    image_after (found (goal.at.room_in-room-requires-in-loop-done c).In-loop-done) (takes (goal.at.room_in-room-requires-in-loop-done c).After-smaller-k) c.block_written-sent.ensures
+    image_after (found (goal.at.room_in-room-requires-in-loop-done c).In-loop-done) (takes (goal.at.room_in-room-requires-in-loop-done c).After-min-k) c.block_written-sent.ensures
 
 pub loop-done-preserved : goal.loop-done-preserved
 loop-done-preserved c x before k =
-    next_written (c.loop-done.invariant x before k) (takes (goal.at.loop-done-preserved c).After-smaller-k) c.block_written-sent.ensures c.sent_stored.ensures c.room_in-room-in-loop-done.ensures
+    next_written (c.loop-done.invariant x before k) (takes (goal.at.loop-done-preserved c).After-min-k) c.block_written-sent.ensures c.sent_stored.ensures c.room_in-room-in-loop-done.ensures
 
 pub overflow_sub-words : goal.overflow_sub-words
 overflow_sub-words c = (found (goal.at.overflow_sub-words c).In-loop-done).few
 
 pub overflow_mul-done : goal.overflow_mul-done
-overflow_mul-done c = omega (arith, (takes (goal.at.overflow_mul-done c).After-smaller-k).few, twice_fit (goal.at.overflow_mul-done c).In-loop-done)
+overflow_mul-done c = omega (arith, (takes (goal.at.overflow_mul-done c).After-min-k).few, twice_fit (goal.at.overflow_mul-done c).In-loop-done)
 
 pub overflow_mul-k : goal.overflow_mul-k
-overflow_mul-k c = omega (arith, (takes (goal.at.overflow_mul-k c).After-smaller-k).few, twice_fit (goal.at.overflow_mul-k c).In-loop-done)
+overflow_mul-k c = omega (arith, (takes (goal.at.overflow_mul-k c).After-min-k).few, twice_fit (goal.at.overflow_mul-k c).In-loop-done)
 
 pub overflow_add-done : goal.overflow_add-done
-overflow_add-done c = omega (arith, (takes (goal.at.overflow_add-done c).After-smaller-k).few, twice_fit (goal.at.overflow_add-done c).In-loop-done)
+overflow_add-done c = omega (arith, (takes (goal.at.overflow_add-done c).After-min-k).few, twice_fit (goal.at.overflow_add-done c).In-loop-done)
 
 pub loop-done-smaller : goal.loop-done-smaller
-loop-done-smaller c = omega (arith, (takes (goal.at.loop-done-smaller c).After-smaller-k).some, (takes (goal.at.loop-done-smaller c).After-smaller-k).few)
+loop-done-smaller c = omega (arith, (takes (goal.at.loop-done-smaller c).After-min-k).some, (takes (goal.at.loop-done-smaller c).After-min-k).few)
 
 pub shape_of-out : goal.shape_of-out
 shape_of-out c = (at_end (goal.at.shape_of-out c).After-loop-done).round.goes.long
 
 pub returns : goal.returns
-returns c = all_written (at_end (goal.at.returns c).After-loop-done) c.ended-code.ensures c.loop-done-test.false
+returns c = all_written (at_end (goal.at.returns c).After-loop-done) c.ended.ensures c.loop-done-test.false

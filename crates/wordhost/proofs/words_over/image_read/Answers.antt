@@ -1,41 +1,12 @@
-use mathlib.Core.Path.{◌≡◌, sym, ◌∙◌, ap}
-use mathlib.Core.Bool.{true}
-use lib.ListN.{length}
-use Rattle.saved.proofs.Acceptance.{acceptable_length}
-use Rattle.wordhost.proofs.OverWords.{read_refused, read_image, read_done}
+use Rattle.wordhost.proofs.OverWords.{read_refused, read_done}
 use Rattle.wordhost.proofs.words_over.image_read.Goals as goal
-use Rattle.wordhost.proofs.words_over.image_read.Goals.{Else-not-is_taken}
 
--- the image is accepted
-accepts : (c : Else-not-is_taken) → c.is_taken.result ≡ true
-accepts c = c.if-not-is_taken.false
-
-pub returns-then-not-is_taken : goal.returns-then-not-is_taken
-returns-then-not-is_taken c =
+pub returns-in_default : goal.returns-in_default
+returns-in_default c =
     let a = c.args in
-    read_refused a.image.now a.words a.out.now
-    (sym c.is_taken.ensures.tested ∙ c.if-not-is_taken.true) c.not_done.ensures
-
-pub words_read-r-requires : goal.words_read-r-requires
-words_read-r-requires c =
-    c.is_taken.ensures.sound (accepts (goal.at.words_read-r-requires c).Else-not-is_taken)
-
-pub slice_bounds-copy-end : goal.slice_bounds-copy-end
-slice_bounds-copy-end c =
-    let a = c.args in
-    sym (acceptable_length _ (read_image (c.is_taken.ensures.sound (accepts (goal.at.slice_bounds-copy-end c).Else-not-is_taken)) a.words a.out.now c.words_read-r.ensures))
-
-pub copy-requires : goal.copy-requires
-copy-requires c =
-    let a = c.args in
-    let taken = c.is_taken.ensures in
-    let i = taken.sound (accepts (goal.at.copy-requires c).Else-not-is_taken) in
-    acceptable_length _ (read_image i a.words a.out.now c.words_read-r.ensures) ∙ sym (acceptable_length _ i)
-    ∙ ap length (taken.copied (accepts (goal.at.copy-requires c).Else-not-is_taken))
+    read_refused a.image.now a.words a.out.now c.in_default.ensures.0 c.not_done.ensures
 
 pub returns : goal.returns
 returns c =
     let a = c.args in
-    let taken = c.is_taken.ensures in
-    read_done a.image.now a.words a.out.now (sym taken.tested ∙ accepts (goal.at.returns c).Else-not-is_taken) (taken.copied (accepts (goal.at.returns c).Else-not-is_taken))
-    c.words_read-r.ensures c.copy.ensures
+    read_done a.image.now a.words a.out.now c.in-Ok.ensures.0 c.in-Ok.ensures.1 c.words_read-r.ensures c.copy_from_slice.ensures.after
