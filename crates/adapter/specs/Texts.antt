@@ -74,6 +74,6 @@ pub record IsAfterRead (c : Chip) (waited : List ℕ) (count : ℕ) (input read 
   pub received : IsReceived count (with_front waited input) read r.received
   pub shown : IsPrinted c (whole r.received read) blank lines (printed_as r.chip (whole r.received read) blank)
   pub answers : filled ≡ answered c (whole r.received read) ++ drop (16 * stepped (whole r.received read)) room
-  pub left : r.left ≡ tail_from (take r.received.held read) (whole_end r.received)
-  pub kept : r.kept ≡ left_over r.received.held r.received.is_end
+  pub left : r.left.bytes ≡ tail_from (take r.received.held read) (whole_end r.received)
+  pub kept : r.left.count ≡ left_over r.received.held r.received.is_end
   pub more : r.more ≡ (r.is_written && not r.received.is_end)

@@ -31,14 +31,21 @@ pub struct Received {
     pub is_end: bool,
 }
 
+// A piece of a record, which waits for the next read: its bytes, zeros behind them, and how many they are.
+#[derive(Clone, Copy)]
+pub struct Piece {
+    pub bytes: [u8; RECORD_SIZE],
+    pub count: usize,
+}
+
 // What came from outside, the read and whether the lines were written, and what follows: the chip, the bytes that wait, whether to go on.
+// Whether they were written is no Result: all else is said in both cases.
 #[derive(Clone, Copy)]
 pub struct AfterRead {
     pub received: Received,
     pub is_written: bool,
     pub chip: Chip,
-    pub left: [u8; RECORD_SIZE],
-    pub kept: usize,
+    pub left: Piece,
     pub more: bool,
 }
 
@@ -49,11 +56,9 @@ fn print(c: Chip, records: &[u8], answers: &mut [u8], text: &mut [u8]) -> Printe
     ensures answers_after { answers.new ≡ answered c records.now ++ drop (16 * stepped records.now) answers.old }
 {
     let ran = step::run::run(c, records, answers);
-    let size = hexlines::print(&answers[..ANSWER_SIZE * ran.count], text);
-    let chip = ran.chip;
     Printed {
-        chip: chip,
-        size: size,
+        chip: ran.chip,
+        size: hexlines::print(&answers[..ANSWER_SIZE * ran.count], text),
     }
 }
 
@@ -73,8 +78,7 @@ fn receive(rt: &HostRuntime, input: &mut [u8], kept: usize) -> Received
     requires { kept ≤ length input.old }
     ensures { IsReceived kept input.old input.new result }
 {
-    let got = rt.stdin().read(&mut input[kept..]);
-    match got {
+    match rt.stdin().read(&mut input[kept..]) {
         Ok(more) => Received {
             held: kept + more,
             is_end: more == 0,
@@ -94,7 +98,7 @@ fn left_over(held: usize, is_end: bool) -> usize
 fn byte_at(bytes: &[u8], at: usize) -> u8
     ensures { result ≡ get_or bytes.now at 0 }
 {
-    if at < bytes.len() { bytes[at] } else { 0 }
+    bytes.get(at).copied().unwrap_or(0)
 }
 
 // The bytes from a place on, as many as can be left over.
@@ -102,10 +106,12 @@ fn tail(bytes: &[u8], from: usize) -> [u8; RECORD_SIZE]
     requires { from ≤ length bytes.now }
     ensures { result ≡ tail_from bytes.now from }
 {
-    let first = byte_at(bytes, from);
-    let second = byte_at(bytes, from + 1);
-    let third = byte_at(bytes, from + 2);
-    [first, second, third, 0]
+    [
+        byte_at(bytes, from),
+        byte_at(bytes, from + 1),
+        byte_at(bytes, from + 2),
+        0,
+    ]
 }
 
 // Writes the lines. Nobody reads a closed pipe any more, so a message comes only where the output is at fault.
@@ -127,36 +133,30 @@ fn send(rt: &HostRuntime, lines: &[u8]) -> bool {
 fn one_read(
     rt: &HostRuntime,
     c: Chip,
-    left: [u8; RECORD_SIZE],
-    kept: usize,
+    left: Piece,
     input: &mut [u8],
     answers: &mut [u8],
     text: &mut [u8],
 ) -> AfterRead
-    requires kept_bound { kept ≤ 3 }
+    requires kept_bound { left.count ≤ 3 }
     requires input_len { length input.old ≡ input_size }
     requires answers_len { length answers.old ≡ answers_size }
     requires text_len { length text.old ≡ text_size }
-    ensures { IsAfterRead c left kept input.old input.new answers.old answers.new text.old text.new result }
+    ensures { IsAfterRead c left.bytes left.count input.old input.new answers.old answers.new text.old text.new result }
 {
-    input[0] = left[0];
-    input[1] = left[1];
-    input[2] = left[2];
-    let received = receive(rt, input, kept);
-    let is_end = received.is_end;
-    let held = received.held;
-    let rest = left_over(held, is_end);
-    let end = held - rest;
+    input[..3].copy_from_slice(&left.bytes[..3]);
+    let received = receive(rt, input, left.count);
+    let Received { held, is_end } = received;
+    let count = left_over(held, is_end);
+    let end = held - count;
     let p = print(c, &input[..end], answers, text);
     let is_written = send(rt, &text[..p.size]);
-    let left = tail(&input[..held], end);
-    let chip = p.chip;
+    let bytes = tail(&input[..held], end);
     AfterRead {
-        received: received,
-        is_written: is_written,
-        chip: chip,
-        left: left,
-        kept: rest,
+        received,
+        is_written,
+        chip: p.chip,
+        left: Piece { bytes, count },
         more: is_written & !is_end,
     }
 }
@@ -164,22 +164,23 @@ fn one_read(
 // The records of the standard input from power reset on, read by read; whether all lines of them were written.
 fn answer_all(rt: &HostRuntime) -> bool {
     let mut chip = step::reset::power_reset();
-    let mut left = [0u8; RECORD_SIZE];
-    let mut kept = 0usize;
-    let mut turns = u64::MAX;
-    let mut more = true;
+    let mut left = Piece {
+        bytes: [0; RECORD_SIZE],
+        count: 0,
+    };
     let mut is_written = true;
     let mut input = [0u8; INPUT_SIZE];
     let mut answers = [0u8; ANSWERS_SIZE];
     let mut text = [0u8; TEXT_SIZE];
-    while turns > 0 && more {
-        let t = one_read(rt, chip, left, kept, &mut input, &mut answers, &mut text);
+    // Counted, since nothing says that the input ends.
+    for _ in 0..u64::MAX {
+        let t = one_read(rt, chip, left, &mut input, &mut answers, &mut text);
         chip = t.chip;
         left = t.left;
-        kept = t.kept;
-        more = t.more;
         is_written = t.is_written;
-        turns -= 1;
+        if !t.more {
+            break;
+        }
     }
     is_written
 }

@@ -5,7 +5,6 @@ ghost use Rattle.std.specs.Prelude.{◌≡◌, ◌+◌, ◌≤◌, min, length, 
 ghost use Rattle.std.proofs.Math.Seq.{paste};
 ghost use Rattle.hexlines.specs.Hex.{line_of, Digits, Printed};
 
-use laws::smaller;
 use rules::records::ANSWER_SIZE;
 
 // 32 hex digits and the end of the line.
@@ -15,7 +14,7 @@ pub const LINE_SIZE: usize = 33;
 fn digits(b: u8) -> u16
     ensures { Digits b result }
 {
-    let w = b as u16;
+    let w = u16::from(b);
     let values = w / 16 + w % 16 * 256;
     let carried = values + 0x0606;
     let letters = carried / 16 % 2 + carried / 4096 * 256;
@@ -28,9 +27,7 @@ fn copied(answers: &[u8], from: usize) -> [u8; ANSWER_SIZE]
     ensures { result ≡ take 16 (drop from answers.now) }
 {
     let mut b = [0u8; ANSWER_SIZE];
-    for i in 0..16usize {
-        b[i] = answers[from + i];
-    }
+    b.copy_from_slice(&answers[from..from + ANSWER_SIZE]);
     b
 }
 
@@ -39,10 +36,10 @@ fn line(b: [u8; ANSWER_SIZE], out: &mut [u8], at: usize)
     requires { at + 33 ≤ length out.old }
     ensures { out.new ≡ paste out.old at (line_of b) 33 }
 {
-    for i in 0..16usize {
-        let pair = digits(b[i]);
-        out[at + 2 * i] = (pair % 256) as u8;
-        out[at + 2 * i + 1] = (pair / 256) as u8;
+    for (i, byte) in b.iter().enumerate() {
+        let [first, second] = digits(*byte).to_le_bytes();
+        out[at + 2 * i] = first;
+        out[at + 2 * i + 1] = second;
     }
     out[at + 32] = 10;
 }
@@ -51,7 +48,8 @@ fn line(b: [u8; ANSWER_SIZE], out: &mut [u8], at: usize)
 pub fn print(answers: &[u8], out: &mut [u8]) -> usize
     ensures { Printed answers.now out.old out.new result }
 {
-    let n = smaller(answers.len() / ANSWER_SIZE, out.len() / LINE_SIZE);
+    // By number: after a loop over chunks_exact_mut a proof knows none of their bytes.
+    let n = (answers.len() / ANSWER_SIZE).min(out.len() / LINE_SIZE);
     for k in 0..n {
         line(copied(answers, ANSWER_SIZE * k), out, LINE_SIZE * k);
     }

@@ -1,5 +1,7 @@
 -- An answer's digits, and the event that a stored answer is compared with.
-use Rattle.std.proofs.Common.{◌≡◌, ℕ, ◌*◌, ◌≤◌, Bool, true, false, eqb, List, [], ◌∷◌, ◌++◌, length, take, drop, replicate, sym, refl, ap, ◌∙◌, append-nil, arith, take_all, take_at, eq-eqb, ne_eqb, eqb-true}
+use Rattle.std.proofs.Common.{◌≡◌, ℕ, ◌*◌, ◌/◌, ◌≤◌, Bool, true, false, eqb, List, [], ◌∷◌, ◌++◌, length, take, drop, replicate, Option, Some, sym, refl, ap, ◌∙◌, append-nil, arith, take_all, take_at, eq-eqb, eqb-true}
+use Rattle.std.proofs.lemmas.Grind.{common_steps}
+use Rattle.std.proofs.lemmas.Option.{cond_some}
 use Rattle.hexlines.specs.Hex.{hex_of, line_of, answers_in, Printed}
 use Rattle.rules.specs.Chips.{view, chip_of}
 use Rattle.rules.specs.Step.{step, answer, called}
@@ -7,10 +9,9 @@ use Rattle.rules.specs.declared.chip.Chip.{Chip}
 use Rattle.step.specs.Outcomes.{returned_of, IsStep}
 use Rattle.step.specs.declared.Returned.{Returned}
 use Rattle.stored.specs.declared.Tally.{Tally}
-use Rattle.stored.specs.Words.{word_end, past, first_word, second_word, record_named}
-use Rattle.stored.specs.Tallies.{is_same, with_event, after_event, after_event_line}
+use Rattle.stored.specs.Words.{first_word, second_word, is_record, record_named}
+use Rattle.stored.specs.Tallies.{is_same, with_event, after_event, after_record, after_event_line}
 use Rattle.stored.specs.declared.words.Named.{Named}
-use Rattle.stored.proofs.Places.{rest, rest_all}
 
 hex_length : (l : List ℕ) → length (hex_of l) ≡ 2 * length l
 hex_length [] = refl
@@ -71,22 +72,18 @@ module _ (t : Tally) (bytes stored : List ℕ) (r : Returned) (buffer line : Lis
       ∙ ap (with_event t (chip_of (step (view t.chip) bytes).state)) (is_same_lem b stored (take 32 line) f g ∙ ap (is_same stored) digits)
 
 -- a line that names a record, or none
-module _ (t : Tally) (text : List ℕ) (end : ℕ) (n : Named) (p : end ≡ word_end text) (q : n ≡ record_named (take end text)) where
-  named : n ≡ record_named (first_word text)
-  named = q ∙ ap (λ (k : ℕ). record_named (take k text)) p
-
-  pub no_event : n.count ≡ 0 → t ≡ after_event_line t text
+module _ (t : Tally) (text first stored : List ℕ) (r : Option Named) (p : first ≡ first_word text) (q : stored ≡ second_word text) where
+  pub event_line_is : r ≡ record_named first → after_record t stored r ≡ after_event_line t text
   unfolding after_event_line
-  no_event z = rw (eq-eqb (record_named (first_word text)).count 0 (sym (ap (λ (x : Named). x.count) named) ∙ z))
+  event_line_is e = rw (e, p, q)
 
-  pub an_event : (n.count ≡ 0 → ⊥) → after_event t (take n.count n.bytes) (second_word text) ≡ after_event_line t text
-  unfolding after_event_line
-  an_event z =
-      rw (ne_eqb (record_named (first_word text)).count 0 (λ y. z (ap (λ (x : Named). x.count) named ∙ y)))
-      (ap (λ (x : Named). after_event t (take x.count x.bytes) (second_word text)) named)
+-- a record has at most four bytes
+pub record_short : (text : List ℕ) → is_record text ≡ true → length text / 2 ≤ 4
+record_short text e = grind (arith, common_steps)
 
-pub second_word_lem : (text : List ℕ) (end from stop : ℕ) → end ≡ word_end text → from ≡ past end text → stop ≡ word_end (rest from text)
-    → take stop (rest from text) ≡ second_word text
-second_word_lem text end from stop p q s =
-    let place : from ≡ past (word_end text) text = q ∙ ap (λ (k : ℕ). past k text) p in
-    ap (λ (k : ℕ). take k (rest from text)) s ∙ ap first_word (rest_all from text ∙ ap (λ (k : ℕ). drop k text) place)
+pub named_short : (text : List ℕ) (n : Named) → record_named text ≡ Some n → n.count ≤ 4
+unfolding record_named
+named_short text n e =
+    let both = cond_some (is_record text) _ n e in
+    let count : length text / 2 ≡ n.count = ap (λ (x : Named). x.count) both.1 in
+    omega (arith, count, record_short text both.0)

@@ -1,71 +1,50 @@
--- A place that a loop passes, and the bounds of what a text names.
-use Rattle.std.proofs.Common.{◌≡◌, ℕ, suc, ◌+◌, ◌-◌, ◌/◌, ◌<◌, ◌≤◌, Bool, true, false, cond, ◌&&◌, eqb, ltb, leb, List, [], ◌∷◌, length, get_or, take, drop, sym, refl, add-one, arith, length-drop, drop_of_length-le, length-take-le, take_all, drop-cons, eq-eqb, ne_eqb, leb-true}
-use Rattle.rules.proofs.Logic.{left_true, right_true}
-use Rattle.stored.specs.Words.{place_of, hex_digits, digit_value, digit_at, is_hex, is_record, record_named}
+-- Where a text is cut.
+use Rattle.std.proofs.Common.{◌≡◌, ℕ, suc, ◌+◌, ◌-◌, ◌<◌, ◌≤◌, Bool, true, false, cond, eqb, ltb, List, ◌∷◌, length, take, drop, Option, Some, None, sym, refl, ap, ◌∙◌, arith, take_all, length-drop}
+use borrow.Author.Tests.{ltb-true, ltb-false}
+use Rattle.std.specs.List.{position, position_or_len}
+use Rattle.std.proofs.lemmas.List.Recursion.{is_position_or_len}
+use Rattle.stored.specs.Words.{place_of, past}
 
-module _ (b : ℕ) (l : List ℕ) (i : ℕ) (h : i < length l) where
-  pub place_here : get_or l i 0 ≡ b → place_of b (drop i l) ≡ 0
-  place_here e = rw (drop-cons l i 0 h, eq-eqb (get_or l i 0) b e)
+found_at : (n k i : ℕ) (t : Bool) → ltb n k ≡ t → ◌≡◌ {A = Option ℕ} (cond t (Some n) None) (Some i) → (i ≡ n) × (i < k)
+found_at n k i true e h =
+    let p : i ≡ n = cc in
+    (p, omega (arith, ltb-true n k e))
+found_at n k i false e h = cc
 
-  pub place_next : (get_or l i 0 ≡ b → ⊥) → place_of b (drop i l) ≡ suc (place_of b (drop (i + 1) l))
-  place_next n = rw (add-one, drop-cons l i 0 h, ne_eqb (get_or l i 0) b n)
+found_none : (n k : ℕ) (t : Bool) → ltb n k ≡ t → ◌≡◌ {A = Option ℕ} (cond t (Some n) None) None → k ≤ n
+found_none n k true e h = cc
+found_none n k false e h = omega (arith, ltb-false n k e)
 
-pub place_none : (b : ℕ) (l : List ℕ) (i : ℕ) → length l ≤ i → place_of b (drop i l) ≡ 0
-place_none b l i h = rw (drop_of_length-le l h)
+module _ (b : ℕ) (l : List ℕ) where
+  step : (x : ℕ) (xs : List ℕ) → place_of b (x ∷ xs) ≡ cond (eqb x b) 0 (1 + place_of b xs)
+  step x xs =
+      let e : suc (place_of b xs) ≡ 1 + place_of b xs = omega arith in
+      ap (λ (k : ℕ). cond (eqb x b) 0 k) e
 
-place_step : (t : Bool) (n m : ℕ) → n ≤ m → cond t 0 (suc n) ≤ suc m
-place_step true n m h = omega arith
-place_step false n m h = omega arith
+  place_is : place_of b l ≡ position_or_len (λ x. eqb x b) l
+  place_is = is_position_or_len (place_of b) (λ x. eqb x b) refl step l
 
-place_le : (b : ℕ) (l : List ℕ) → place_of b l ≤ length l
-place_le b [] = omega arith
-place_le b (x ∷ l) = place_step (eqb x b) (place_of b l) (length l) (place_le b l)
+  pub place_found : (i : ℕ) → position (λ x. eqb x b) l ≡ Some i → (i ≡ place_of b l) × (i < length l)
+  place_found i h =
+      let f = found_at (position_or_len (λ x. eqb x b) l) (length l) i (ltb (position_or_len (λ x. eqb x b) l) (length l)) refl h in
+      (f.0 ∙ sym place_is, f.1)
 
-digit_le : (b : ℕ) → digit_value b ≤ 16
-unfolding digit_value
-digit_le b = place_le b hex_digits
+  pub place_not_found : position (λ x. eqb x b) l ≡ None → length l ≤ place_of b l
+  place_not_found h = rw place_is (found_none (position_or_len (λ x. eqb x b) l) (length l) (ltb (position_or_len (λ x. eqb x b) l) (length l)) refl h)
 
-digit_or_none : (t : Bool) {n : ℕ} → n ≤ 16 → cond t n 0 ≤ 16
-digit_or_none true h = h
-digit_or_none false h = omega arith
+  pub cut_before : (i : ℕ) → position (λ x. eqb x b) l ≡ Some i → take i l ≡ take (place_of b l) l
+  cut_before i h = ap (λ (k : ℕ). take k l) (place_found i h).0
 
-pub digit_at_le : (text : List ℕ) (i : ℕ) → digit_at text i ≤ 16
-unfolding digit_at
-digit_at_le text i = digit_or_none (ltb i (length text)) (digit_le (get_or text i 0))
+  pub cut_behind : (i : ℕ) → position (λ x. eqb x b) l ≡ Some i → take (length l - (i + 1)) (drop (i + 1) l) ≡ drop (past (place_of b l) l) l
+  cut_behind i h =
+      let f = place_found i h in
+      let e : i + 1 ≡ past (place_of b l) l = omega (arith, f.0, f.1) in
+      take_all (length l - (i + 1)) (drop (i + 1) l) (omega (arith, length-drop (i + 1) l)) ∙ ap (λ (k : ℕ). drop k l) e
 
-module _ (l : List ℕ) (i : ℕ) (h : i < length l) where
-  pub hex_here : digit_value (get_or l i 0) ≡ 16 → is_hex (drop i l) ≡ false
-  hex_here e = rw (drop-cons l i 0 h, eq-eqb (digit_value (get_or l i 0)) 16 e)
+  pub uncut_before : position (λ x. eqb x b) l ≡ None → l ≡ take (place_of b l) l
+  uncut_before h = sym (take_all (place_of b l) l (place_not_found h))
 
-  pub hex_next : (digit_value (get_or l i 0) ≡ 16 → ⊥) → is_hex (drop i l) ≡ is_hex (drop (i + 1) l)
-  hex_next n = rw (add-one, drop-cons l i 0 h, ne_eqb (digit_value (get_or l i 0)) 16 n)
-
-pub hex_none : (l : List ℕ) (i : ℕ) → length l ≤ i → is_hex (drop i l) ≡ true
-hex_none l i h = rw (drop_of_length-le l h)
-
--- what a slice from a place on holds
-abbrev pub rest : ℕ → List ℕ → List ℕ
-rest n l = take (length l - n) (drop n l)
-
-pub rest_all : (n : ℕ) (l : List ℕ) → rest n l ≡ drop n l
-rest_all n l = take_all (length l - n) (drop n l) (omega (arith, length-drop n l))
-
-pub rest_length : (n : ℕ) (l : List ℕ) → length (rest n l) ≡ length l - n
-rest_length n l = rw (rest_all n l) (length-drop n l)
-
-pub cut_length : (b : ℕ) (l : List ℕ) (n : ℕ) → n ≡ place_of b l → n ≡ length (take n l)
-cut_length b l n e = sym (length-take-le n l (omega (arith, place_le b l)))
-
-named_short : (text : List ℕ) → is_record text ≡ true → length text / 2 ≤ 4
-unfolding is_record
-named_short text e =
-    let short = right_true (is_hex text) (leb (length text) 8) (left_true (is_hex text && leb (length text) 8) _ e) in
-    omega (arith, leb-true (length text) 8 short)
-
-named_either : (text : List ℕ) (t : Bool) → is_record text ≡ t → (record_named text).count ≤ length (record_named text).bytes
-unfolding record_named
-named_either text true e = rw e (named_short text e)
-named_either text false e = rw e (omega arith)
-
-pub named_fits : (text : List ℕ) → (record_named text).count ≤ length (record_named text).bytes
-named_fits text = named_either text (is_record text) refl
+  pub uncut_behind : position (λ x. eqb x b) l ≡ None → take (length l - length l) (drop (length l) l) ≡ drop (past (place_of b l) l) l
+  uncut_behind h =
+      let e : length l ≡ past (place_of b l) l = omega (arith, place_not_found h) in
+      take_all (length l - length l) (drop (length l) l) (omega (arith, length-drop (length l) l)) ∙ ap (λ (k : ℕ). drop k l) e

@@ -1,11 +1,12 @@
 -- What a text counts up to: of its events, how many have the answer of the step stored beside them.
-use Rattle.std.specs.Prelude.{ℕ, ◌+◌, ◌%◌, ◌^◌, Bool, true, false, cond, List, [], ◌∷◌, length, take, ◌==◌, slice_index_or}
+use Rattle.std.specs.Prelude.{ℕ, ◌+◌, ◌%◌, ◌^◌, Bool, true, false, cond, List, [], ◌∷◌, length, take, ◌==◌, slice_index_or, Option, Some, None}
 use Rattle.hexlines.specs.Hex.{hex_of}
 use Rattle.rules.specs.State.{power_reset}
 use Rattle.rules.specs.Chips.{view, chip_of}
 use Rattle.rules.specs.Step.{step, answer}
 use Rattle.rules.specs.declared.chip.Chip.{Chip}
 use Rattle.stored.specs.Words.{first_word, second_word, lines_in, record_named}
+use Rattle.stored.specs.declared.words.Named.{Named}
 use Rattle.stored.specs.declared.Tally.{Tally}
 
 -- counts are kept in 64 bits
@@ -47,11 +48,14 @@ after_event t bytes stored =
     let s = view t.chip in
     with_event t (chip_of (step s bytes).state) (is_same stored (hex_of (answer s bytes)))
 
+-- a record and the answer stored beside it; no record counts nothing
+abbrev pub after_record : Tally → List ℕ → Option Named → Tally
+after_record t stored None = t
+after_record t stored (Some named) = after_event t (take named.count named.bytes) stored
+
 -- a record and its stored answer, a word each; a line whose first word names no record counts nothing
 unfoldable pub after_event_line : Tally → List ℕ → Tally
-after_event_line t text =
-    let named = record_named (first_word text) in
-    cond (named.count == 0) t (after_event t (take named.count named.bytes) (second_word text))
+after_event_line t text = after_record t (second_word text) (record_named (first_word text))
 
 -- an empty line and one that starts with # count nothing; one that starts with = starts a stream
 unfoldable pub after_line : Tally → List ℕ → Tally

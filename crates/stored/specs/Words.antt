@@ -1,5 +1,6 @@
 -- The lines and words of a text, and the record that hex digits name.
-use Rattle.std.specs.Prelude.{ℕ, suc, ◌+◌, ◌*◌, ◌/◌, ◌%◌, min, Bool, true, false, cond, ◌&&◌, List, [], ◌∷◌, length, take, drop, ◌==◌, nat_le, nat_lt, slice_index}
+use Rattle.std.specs.Prelude.{ℕ, suc, ◌+◌, ◌*◌, ◌/◌, ◌%◌, min, Bool, cond, not, ◌&&◌, List, [], ◌∷◌, length, take, drop, ◌==◌, nat_le, Option, Some, None, is_some, unwrap_or, option_and_then, position, slice_get}
+use Rattle.std.specs.List.{list_all}
 use Rattle.stored.specs.declared.words.Named.{Named}
 
 -- how many bytes stand before the first b; all of them where none is
@@ -39,28 +40,27 @@ lines_in (b ∷ l) = cond (b == 10) ([] ∷ lines_in l) (prepended b (lines_in l
 abbrev pub hex_digits : List ℕ
 hex_digits = 48 ∷ 49 ∷ 50 ∷ 51 ∷ 52 ∷ 53 ∷ 54 ∷ 55 ∷ 56 ∷ 57 ∷ 65 ∷ 66 ∷ 67 ∷ 68 ∷ 69 ∷ 70 ∷ []
 
--- the value of a digit is its place among the sixteen; 16 of any other byte
-unfoldable pub digit_value : ℕ → ℕ
-digit_value b = place_of b hex_digits
+-- the value of a digit is its place among the sixteen; none of any other byte
+abbrev pub digit_value : ℕ → Option ℕ
+digit_value b = position (λ digit. digit == b) hex_digits
 
 abbrev pub is_hex : List ℕ → Bool
-is_hex [] = true
-is_hex (b ∷ l) = cond (digit_value b == 16) false (is_hex l)
+is_hex text = list_all (λ b. is_some (digit_value b)) text
 
--- at most 8 digits, two to a byte
-unfoldable pub is_record : List ℕ → Bool
-is_record text = is_hex text && nat_le (length text) 8 && length text % 2 == 0
+-- 2, 4, 6 or 8 digits, two to a byte
+abbrev pub is_record : List ℕ → Bool
+is_record text = not (length text == 0) && nat_le (length text) 8 && length text % 2 == 0 && is_hex text
 
 -- past the end of a text, 0
-unfoldable pub digit_at : List ℕ → ℕ → ℕ
-digit_at text i = cond (nat_lt i (length text)) (digit_value (slice_index text i)) 0
+abbrev pub digit_at : List ℕ → ℕ → ℕ
+digit_at text i = unwrap_or (option_and_then digit_value (slice_get text i)) 0
 
-unfoldable pub byte_at : List ℕ → ℕ → ℕ
-byte_at text i = (16 * digit_at text (2 * i) + digit_at text (2 * i + 1)) % 256
+abbrev pub byte_at : List ℕ → ℕ → ℕ
+byte_at text i = 16 * digit_at text (2 * i) + digit_at text (2 * i + 1)
 
--- the record that a text names: its bytes, zeros to fill the array, and their number; no bytes where it names none
-unfoldable pub record_named : List ℕ → Named
+-- the record that a text names: its bytes, zeros to fill the array, and their number; none where it names none
+unfoldable pub record_named : List ℕ → Option Named
 record_named text =
     cond (is_record text)
-    (record { bytes = byte_at text 0 ∷ byte_at text 1 ∷ byte_at text 2 ∷ byte_at text 3 ∷ []; count = length text / 2 })
-    (record { bytes = 0 ∷ 0 ∷ 0 ∷ 0 ∷ []; count = 0 })
+    (Some (record { bytes = byte_at text 0 ∷ byte_at text 1 ∷ byte_at text 2 ∷ byte_at text 3 ∷ []; count = length text / 2 }))
+    None

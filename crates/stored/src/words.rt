@@ -1,48 +1,27 @@
 // Words of a line, and the bytes that hex digits name.
-ghost use Rattle.std.specs.Prelude.{◌≡◌};
-ghost use Rattle.stored.specs.Words.{place_of, line_end, word_end, past, digit_value, is_hex, is_record, digit_at, byte_at, record_named};
+ghost use Rattle.std.specs.Prelude.{◌≡◌, ◌==◌, position, take, drop};
+ghost use Rattle.stored.specs.Words.{place_of, past, digit_value, is_hex, is_record, digit_at, byte_at, record_named};
 
-// How many bytes stand before the first that is `byte`; all where none is.
-fn place_of(text: &[u8], byte: u8) -> usize
-    ensures { result ≡ place_of byte text.now }
+// Where the first such byte stands.
+fn place_of(text: &[u8], byte: u8) -> Option<usize>
+    ensures { result ≡ position (λ b. b == byte) text.now }
 {
-    let mut i: usize = 0;
-    while i < text.len() {
-        if text[i] == byte {
-            return i;
-        }
-        i += 1;
-    }
-    i
+    text.iter().position(|b| *b == byte)
 }
 
-// Where the first line ends.
-pub fn line_end(text: &[u8]) -> usize
-    ensures { result ≡ line_end text.now }
+// What stands before the first byte that is `end`, and what stands behind it: all and nothing where none is.
+pub fn cut(text: &[u8], end: u8) -> (&[u8], &[u8])
+    ensures before { result.0.now ≡ take (place_of end text.now) text.now }
+    ensures behind { result.1.now ≡ drop (past (place_of end text.now) text.now) text.now }
 {
-    place_of(text, 10)
-}
-
-// Where the first word ends.
-pub fn word_end(text: &[u8]) -> usize
-    ensures { result ≡ word_end text.now }
-{
-    place_of(text, 32)
-}
-
-// Past the byte that ended a line or a word.
-pub fn next(text: &[u8], end: usize) -> usize
-    ensures { result ≡ past end text.now }
-{
-    if end < text.len() {
-        end + 1
-    } else {
-        text.len()
+    match place_of(text, end) {
+        Some(at) => (&text[..at], &text[at + 1..]),
+        None => (text, &text[text.len()..]),
     }
 }
 
-// The value of a hex digit, or 16.
-fn digit_value(b: u8) -> usize
+// The value of a hex digit; none of any other byte.
+fn digit_value(b: u8) -> Option<usize>
     ensures { result ≡ digit_value b }
 {
     place_of(b"0123456789ABCDEF", b)
@@ -51,31 +30,22 @@ fn digit_value(b: u8) -> usize
 fn is_hex(text: &[u8]) -> bool
     ensures { result ≡ is_hex text.now }
 {
-    let mut i: usize = 0;
-    while i < text.len() {
-        if digit_value(text[i]) == 16 {
-            return false;
-        }
-        i += 1;
-    }
-    true
+    text.iter().all(|b| digit_value(*b).is_some())
 }
 
 fn is_record(text: &[u8]) -> bool
     ensures { result ≡ is_record text.now }
 {
-    let digits = is_hex(text);
-    let n = text.len();
-    digits & (n <= 8) & (n % 2 == 0)
+    !text.is_empty() && text.len() <= 8 && text.len() % 2 == 0 && is_hex(text)
 }
 
+// Past the end of a text, 0.
 fn digit_at(text: &[u8], i: usize) -> usize
     ensures { result ≡ digit_at text.now i }
 {
-    if i < text.len() {
-        digit_value(text[i])
-    } else {
-        0
+    match text.get(i) {
+        Some(b) => digit_value(*b).unwrap_or(0),
+        None => 0,
     }
 }
 
@@ -83,13 +53,11 @@ fn digit_at(text: &[u8], i: usize) -> usize
 fn byte_at(text: &[u8], i: u8) -> u8
     ensures { result ≡ byte_at text.now i }
 {
-    let at = 2 * (i as usize);
-    let high = digit_at(text, at);
-    let low = digit_at(text, at + 1);
-    ((16 * high + low) % 256) as u8
+    let at = 2 * usize::from(i);
+    (16 * digit_at(text, at) + digit_at(text, at + 1)) as u8
 }
 
-// A record's bytes: none where the text is no record.
+// A record's bytes, one to four: an array and how many of it count, since nothing here is on the heap.
 #[derive(Clone, Copy)]
 pub struct Named {
     pub bytes: [u8; 4],
@@ -97,24 +65,19 @@ pub struct Named {
 }
 
 // The record that 2, 4, 6 or 8 hex digits name.
-pub fn record_of(text: &[u8]) -> Named
+pub fn record_of(text: &[u8]) -> Option<Named>
     ensures { result ≡ record_named text.now }
 {
     if !is_record(text) {
-        let bytes = [0u8; 4];
-        return Named {
-            bytes: bytes,
-            count: 0,
-        };
+        return None;
     }
-    let bytes = [
-        byte_at(text, 0),
-        byte_at(text, 1),
-        byte_at(text, 2),
-        byte_at(text, 3),
-    ];
-    Named {
-        bytes: bytes,
+    Some(Named {
+        bytes: [
+            byte_at(text, 0),
+            byte_at(text, 1),
+            byte_at(text, 2),
+            byte_at(text, 3),
+        ],
         count: text.len() / 2,
-    }
+    })
 }

@@ -25,7 +25,8 @@ second_right b = eqb (pair b / 256) (digit_of (b % 16))
 pub returns : goal.returns
 returns c =
     let b = c.args.b in
-    let h : b < 256 = omega arith in record {
+    let h : b < 256 = omega arith in
+    rw c.from-w.ensures (record {
       first = eqb→eq (pair b % 256) (digit_of (b / 16)) (below_at first_right 256 tt b h);
       second = eqb→eq (pair b / 256) (digit_of (b % 16)) (below_at second_right 256 tt b h);
-    }
+    })

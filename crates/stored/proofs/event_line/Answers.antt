@@ -1,41 +1,21 @@
--- Each word's length is what its end says.
-use Rattle.std.proofs.Common.{take, sym, ap, ◌∙◌, length-take-le}
-use Rattle.stored.specs.Tallies.{after_event}
-use Rattle.stored.proofs.Places.{rest, cut_length, named_fits}
-use Rattle.stored.proofs.Events.{no_event, an_event, second_word_lem}
+-- Each word is what its end says.
+use Rattle.std.proofs.Common.{None, Some, sym, ap, ◌∙◌, arith, length-take-le}
+use Rattle.stored.specs.Words.{first_word}
+use Rattle.stored.proofs.Events.{event_line_is, named_short}
 use Rattle.stored.proofs.event_line.Goals as goal
 
-pub slice_bounds-record_of-end : goal.slice_bounds-record_of-end
-slice_bounds-record_of-end c = cut_length 32 c.args.text.now c.word_end-end.result c.word_end-end.ensures
-
-pub returns-then-count-eq0 : goal.returns-then-count-eq0
-returns-then-count-eq0 c =
-    let named = c.record_of-named in
-    let end = c.word_end-end in
-    no_event c.args.t c.args.text.now end.result named.result end.ensures named.ensures c.if-count-eq0.true
-
 pub slice_bounds-bytes-end : goal.slice_bounds-bytes-end
-slice_bounds-bytes-end c = rw c.record_of-named.ensures (named_fits _)
+slice_bounds-bytes-end c =
+    let r = c.in-Some.record in
+    sym (length-take-le r.count r.bytes (omega (arith, named_short c.cut.result.0.now r (sym c.record_of.ensures ∙ c.in-Some.is))))
 
-pub slice_bounds-event-end : goal.slice_bounds-event-end
-slice_bounds-event-end c =
-    let named = c.record_of-named in
-    sym (length-take-le named.result.count named.result.bytes (rw named.ensures (named_fits _)))
+pub shared_ref_as_front-bytes : goal.shared_ref_as_front-bytes
+shared_ref_as_front-bytes c = named_short c.cut.result.0.now c.in-Some.record (sym c.record_of.ensures ∙ c.in-Some.is)
 
-pub slice_bounds-event-end-2 : goal.slice_bounds-event-end-2
-slice_bounds-event-end-2 c = cut_length 32 c.args.text.now c.word_end-end.result c.word_end-end.ensures
-
-pub slice_bounds-event-end-3 : goal.slice_bounds-event-end-3
-slice_bounds-event-end-3 c =
-    cut_length 32 (rest c.next-from.result c.args.text.now) c.word_end-stop.result c.word_end-stop.ensures
+pub returns-in_default : goal.returns-in_default
+returns-in_default c =
+    event_line_is c.args.t c.args.text.now c.cut.result.0.now c.cut-2.result.0.now None c.cut.ensures.before (c.cut-2.ensures.before ∙ ap first_word c.cut.ensures.behind) (sym c.in_default.is ∙ c.record_of.ensures)
 
 pub returns : goal.returns
 returns c =
-    let a = c.args in
-    let named = c.record_of-named in
-    let end = c.word_end-end in
-    let next = c.next-from in
-    let stop = c.word_end-stop in
-    c.event.ensures
-    ∙ ap (after_event a.t (take named.result.count named.result.bytes)) (second_word_lem a.text.now end.result next.result stop.result end.ensures next.ensures stop.ensures)
-    ∙ an_event a.t a.text.now end.result named.result end.ensures named.ensures c.if-count-eq0.false
+    c.event.ensures ∙ event_line_is c.args.t c.args.text.now c.cut.result.0.now c.cut-2.result.0.now (Some c.in-Some.record) c.cut.ensures.before (c.cut-2.ensures.before ∙ ap first_word c.cut.ensures.behind) (sym c.in-Some.is ∙ c.record_of.ensures)
