@@ -24,14 +24,14 @@ pub struct Printed {
     pub size: usize,
 }
 
-// What one read leaves: how many bytes are held, and whether the input is at its end.
+// What one read leaves: how many bytes are held, and whether the input is at its end; no Option, since bytes are held at the end too.
 #[derive(Clone, Copy)]
 pub struct Received {
     pub held: usize,
     pub is_end: bool,
 }
 
-// A piece of a record, which waits for the next read: its bytes, zeros behind them, and how many they are.
+// A piece of a record, which waits for the next read: its bytes, zeros behind them, and how many they are, in fixed memory.
 #[derive(Clone, Copy)]
 pub struct Piece {
     pub bytes: [u8; RECORD_SIZE],
@@ -129,7 +129,8 @@ fn send(rt: &HostRuntime, lines: &[u8]) -> bool {
     }
 }
 
-// One read, so that answers come as soon as their records do. Nothing is read of what an earlier turn left in the arrays.
+// One read, so that answers come as soon as their records do. The arrays are lent, so that they are made once; nothing is read of what an
+// earlier turn left in them.
 fn one_read(
     rt: &HostRuntime,
     c: Chip,

@@ -96,7 +96,14 @@ fn edges_in(m: &mut Image, was: Before, bad: bool, ticks: u32) -> bool
 {
     let quiet = found::quiet_after(m, false, ticks);
     let free = (8 <= quiet) & !(8 <= m[QUIET]);
-    if found::rst_rises(m, was.rst) | free | bad {
+    // One after the other: a single test for the three made a line event a tenth slower.
+    if found::rst_rises(m, was.rst) {
+        return all_in(m, was, ticks);
+    }
+    if free {
+        return all_in(m, was, ticks);
+    }
+    if bad {
         return all_in(m, was, ticks);
     }
     m[QUIET] = quiet;

@@ -44,7 +44,8 @@ fn before_of(x: Seen) -> Before
 pub fn is_same(m: &Image, x: Seen) -> bool
     ensures { result ≡ (eqb (get_or m.now control_place 0) x.control && eqb (get_or m.now scsisig_place 0) x.sig && eqb (get_or m.now upper_place 0) x.upper && eqb (get_or m.now scsiseq_place 0) x.seq && eqb (get_or m.now sequencer_place 0) x.sequencer) }
 {
-    seen_in(m) == x
+    // The lines first: in a line event it is they that changed.
+    m[LINES_CONTROL] == x.control && seen_in(m) == x
 }
 
 // The five steps where what is seen is as it was and no tick came: BSY or SEL seen stops the quiet ticks, and nothing else changes.

@@ -47,7 +47,7 @@ fn is_nothing(t: Told) -> bool
     (t.moves == 0) & (t.acks == 0) & (t.sent.count == 0)
 }
 
-// Another copy of the chip.
+// Another copy of the chip. At rest, here and below: that holds between events only, so no type keeps it.
 fn copied(m: &Image, spare: &mut Image, left: u32) -> Lap
     requires image { IsImage m.now }
     requires at_rest { AtRest (state_at m.now) }

@@ -12,7 +12,8 @@ use step::run::answered;
 mod over;
 mod refusing;
 
-// One record: its code; the new image in place of the old.
+// One record: its code; the new image in place of the old. The frame of a call stands in each: a closure for what it does would hold the
+// lent buffers, and nothing says what an `FnOnce` leaves in what it holds.
 #[tactic(auto, using(crate::proofs::OverImages::call_refused_lem))]
 pub fn rabenteig_step(image: &mut [u8], bytes: &[u8], answer: &mut [u8]) -> u8
     ensures { IsImageCall image.old bytes.now answer.old image.new answer.new result }

@@ -14,6 +14,7 @@ fn refused_answer() -> [u8; ANSWER_SIZE]
     b
 }
 
+// Code 1, a number as C takes it.
 pub fn refuse(answer: &mut [u8]) -> u8
     ensures value { result ≡ 1 }
     ensures answer_after { answer.new ≡ refused_buffer answer.old }

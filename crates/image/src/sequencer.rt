@@ -41,7 +41,7 @@ pub fn phase(m: &Image) -> Phase
     phase_of(m[SEQUENCER] % 8)
 }
 
-// "arbitrating BSY; clearing BSY, SEL; answered BSY"
+// What each phase drives, a function for each definition. "arbitrating BSY; clearing BSY, SEL; answered BSY"
 pub fn drives_bsy(p: Phase) -> bool
     ensures { result ≡ phase_bsy p }
 {

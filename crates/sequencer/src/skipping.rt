@@ -130,7 +130,8 @@ fn quiet_after(m: &Image, k: u32) -> u8
     }
 }
 
-// Ticks below the distance, in place: the quiet ticks and the ticks in the phase.
+// Ticks below the distance, in place: the quiet ticks and the ticks in the phase. A chip is at rest between events only, so no type
+// keeps that.
 pub fn advanced_in(m: &mut Image, k: u32)
     requires image { IsImage m.old }
     requires at_rest { AtRest (state_at m.old) }

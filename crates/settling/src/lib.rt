@@ -70,6 +70,7 @@ fn shaking(m: &mut Image, c: Conditions, made: u8) -> Told
     let mut moves = made;
     let mut acks = 0u8;
     let mut sent = fifos::empty();
+    // Each turn changes what the test looks at.
     while shakes::can_handshake(m, c) {
         sent = shakes::shaken(m, c, sent);
         acks += 1;

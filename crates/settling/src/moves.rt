@@ -50,7 +50,9 @@ pub fn run_length(m: &Image, c: Conditions) -> usize
     if !c.path {
         0
     } else if c.outbound {
-        host.min(8 - scsi)
+        if host == 0 { 0 } else { host.min(8 - scsi) }
+    } else if scsi == 0 {
+        0
     } else {
         scsi.min(128 - host)
     }
@@ -70,6 +72,8 @@ fn carried_run(m: &mut Image, c: Conditions, k: usize)
 }
 
 // The longest run of moves, and how many they are.
+// Inlined: a call for each event took a tenth of its time.
+#[inline(always)]
 pub fn moved(m: &mut Image, c: Conditions) -> u8
     requires { IsImage m.old }
     ensures { Moves m.old c m.new result }

@@ -30,7 +30,7 @@ pub struct Ran {
     pub count: usize,
 }
 
-// One record over the image of a tidy chip; its answer fills the buffer.
+// One record over the image of a tidy chip; its answer fills the buffer. Laid out and taken up here, since the record is one alone.
 fn stepped_over(c: Chip, bytes: &[u8], answer: &mut [u8]) -> Returned
     requires tidy { Tidy c }
     requires answer_len { length answer.old ≡ 16 }

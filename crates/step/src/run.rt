@@ -38,7 +38,7 @@ pub fn answered(m: &mut Image, records: &[u8], answers: &mut [u8]) -> usize
     n
 }
 
-// The same of a chip by value, which is laid out once and taken up again at the end.
+// The same of a chip by value, which is laid out once and taken up again at the end: three lines, which a closure would not shorten.
 pub fn run(c: Chip, records: &[u8], answers: &mut [u8]) -> Ran
     ensures { IsRun c records.now answers.old answers.new result }
 {

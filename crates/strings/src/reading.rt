@@ -23,7 +23,8 @@ fn block_fetched(m: &mut Image, n: usize, out: &mut [u8], at: usize)
     let _sent = settled_in(m);
 }
 
-// The first word, by the step: the chip need not be at rest.
+// The first word, by the step: the chip need not be at rest. It tells of one word or none as a call does, by the number that its clause
+// speaks of.
 fn first_fetched(m: &mut Image, out: &mut [u8]) -> Passed
     requires image { IsImage m.old }
     requires in_bounds { 2 ≤ length out.old }
@@ -67,6 +68,7 @@ pub fn fetched_over(m: &mut Image, words: usize, out: &mut [u8]) -> Passed
     }
     let mut done = 1;
     let mut held = usize::from(m[HOST_COUNT]);
+    // Each turn changes what the test looks at.
     while (done < words) & (1 < held) {
         let k = (words - done).min(held / 2);
         block_fetched(m, 2 * k, out, 2 * done);

@@ -1,4 +1,4 @@
-// The write call of a chip by value, which is laid out once and taken up again at the end.
+// The write call of a chip by value, which is laid out once and taken up again at the end, as in the read call and for its reason.
 ghost use Rattle.strings.specs.Writing.{IsWriteCall};
 
 use crate::Written;

@@ -89,6 +89,7 @@ pub fn written_over(m: &mut Image, bytes: &[u8], words: usize, out: &mut [u8]) -
     let mut done = 1usize;
     let mut count = first.count;
     let mut room = room_in(m);
+    // Each turn changes what the test looks at.
     while (done < words) & (0 < room) {
         let k = (words - done).min(room);
         let sent = block_written(m, bytes, 2 * done, 2 * k);

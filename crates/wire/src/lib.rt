@@ -43,7 +43,7 @@ fn lines_of(p: u32) -> Lines
 fn well_if(t: bool, e: Event) -> Option<Event>
     ensures { result ≡ cond t (Some e) None }
 {
-    if t { Some(e) } else { None }
+    t.then_some(e)
 }
 
 // Kind 1: a register write.
@@ -112,20 +112,18 @@ pub fn decode(bytes: &[u8]) -> Option<Event>
 }
 
 // The value of a refusal: all ones of the width on a read, 0 on all else.
+#[tactic(auto, unfolding(rules::specs::Codes::refused_value))]
 pub fn refused_value(e: Event) -> u16
     ensures { result ≡ refused_value e }
 {
     match e {
-        Event::PowerReset => 0,
-        Event::Write {
-            offset: _,
-            value: _,
-        } => 0,
-        Event::Read { offset: _ } => 0xFF,
-        Event::WordWrite(_) => 0,
+        Event::Read { .. } => 0xFF,
         Event::WordRead => 0xFFFF,
-        Event::Drive(_) => 0,
-        Event::Ticks(_) => 0,
+        Event::PowerReset
+        | Event::Write { .. }
+        | Event::WordWrite(_)
+        | Event::Drive(_)
+        | Event::Ticks(_) => 0,
     }
 }
 
@@ -157,14 +155,13 @@ fn offset_byte(offset: u8, scsi: u8) -> u8
 pub fn answer_bytes(a: Answer) -> [u8; ANSWER_SIZE]
     ensures { result ≡ answer_bytes a }
 {
-    let sent = a.sent;
     let first = code_byte(a.code, a.irq, a.acks);
     let second = moves_byte(a.moves, a.driving, a.rst, a.parity);
     let high = (a.value >> 8) as u8;
     let low = (a.value & 255) as u8;
     let seventh = offset_byte(a.offset, a.scsi);
     [
-        first, second, high, low, a.control, a.driven, seventh, a.host, sent[0], sent[1], sent[2],
-        sent[3], sent[4], sent[5], sent[6], sent[7],
+        first, second, high, low, a.control, a.driven, seventh, a.host, a.sent[0], a.sent[1],
+        a.sent[2], a.sent[3], a.sent[4], a.sent[5], a.sent[6], a.sent[7],
     ]
 }

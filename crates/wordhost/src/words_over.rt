@@ -46,7 +46,7 @@ fn words_read(m: &mut Image, words: usize, out: &mut [u8]) -> Passed
     fetched_over(m, words, out)
 }
 
-// The calls on any slice; where it is no image that is accepted, no word is done.
+// The calls on any slice; where it is no image that is accepted, no word is done. The frame of a call stands in each, as in `host`.
 pub fn image_written(image: &mut [u8], bytes: &[u8], words: usize, out: &mut [u8]) -> Passed
     ensures { LeftWrite (image_written image.old bytes.now words out.old) image.new result.done result.count out.new (number_of result.code) }
 {

@@ -1,5 +1,5 @@
 use mathlib.Core.Path.{sym, ◌∙◌}
-use Rattle.edges.proofs.InTurn.{none, quiet_is, no_error, not_free, quieted, phased_packed, beyond_is, all_parts}
+use Rattle.edges.proofs.InTurn.{quiet_is, no_error, not_free, quieted, phased_packed, beyond_is, all_parts}
 use Rattle.edges.proofs.edges_in.Goals as goal
 
 pub phase_in-requires : goal.phase_in-requires
@@ -16,8 +16,7 @@ returns c =
     let a = c.args in
     let m = a.m.now in
     let w = a.was in
-    let rare = none _ _ _ c.if-rst_rises-free.false in
-    let off = sym c.rst_rises.ensures ∙ rare.first in
+    let off = sym c.rst_rises.ensures ∙ c.if-rst_rises.false in
     let q = c.quiet_after-quiet.result in
     let is = quiet_is m w.rst w.req a.ticks off c.quiet_after-quiet.ensures in
-    let then = c.phase_in.ensures in record { value = beyond_is m c.requires.image.packed w.mismatched q then w.rst w.req a.ticks is c.req_in.ensures.value; m_after = all_parts m c.requires.image.packed w.mismatched q then w.rst w.req a.ticks is off (no_error m w.rst w.req a.ticks c.requires.bad_value rare.third) (not_free m w.rst w.req a.ticks is rare.second) c.req_in.ensures.m_after }
+    let then = c.phase_in.ensures in record { value = beyond_is m c.requires.image.packed w.mismatched q then w.rst w.req a.ticks is c.req_in.ensures.value; m_after = all_parts m c.requires.image.packed w.mismatched q then w.rst w.req a.ticks is off (no_error m w.rst w.req a.ticks c.requires.bad_value c.if-bad.false) (not_free m w.rst w.req a.ticks is c.if-free.false) c.req_in.ensures.m_after }
