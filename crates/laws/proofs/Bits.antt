@@ -2,9 +2,9 @@
 use mathlib.Core.Path.{◌≡◌, refl, ap, ◌∙◌}
 use mathlib.Core.Bool.{Bool, true, false}
 use Prim.Native.Nat.{ℕ, zero, suc, ◌+◌, ◌*◌, ◌/◌, ◌%◌, ◌^◌, ◌-◌, ◌≤◌, ◌<◌}
-use native.Mathlib.Nat.{mod-eq_of_lt, div-eq_of_lt, lt_of_lt_of_le, one-mul, suc-mul, mul-le-mul_right}
+use native.Mathlib.Nat.{mod-eq_of_lt, div-eq_of_lt, lt_of_lt_of_le, lt_of_le_of_lt, div-mul-le_self, one-mul, suc-mul, mul-le-mul_right, mod-lt, add_comm, add_assoc}
 use native.Mathlib.Omega.{arith}
-use lib.Pow.{pow_mono, pow-add, shl_exact}
+use lib.Pow.{pow_pos, pow_mono, pow-add, shl_lt, shl_exact}
 use lib.Dec.{eqb}
 use lib.Bits.{bit_and, bit_or, or_shifted, and_mask, mask_lt}
 use mir.Val.{bool_byte}
@@ -57,6 +57,15 @@ shl_one w k h = shl_exact {a = 1} 1 k w (omega arith) (omega arith) ∙ one-mul 
 -- n & ((1 << k) - 1)
 pub low_and : (w k n : ℕ) → k < w → bit_and n (1 * 2 ^ k % 2 ^ w - 1) ≡ n % 2 ^ k
 low_and w k n h = rw (shl_one w k h) (and_mask n k)
+
+-- ((n >> (k + j)) << (k + j)) | ((v << k) | (n & ((1 << k) - 1))): n with its field of j bits from k on written
+pub put_field : (w j k v n : ℕ) → j + k ≤ w → k < w → v < 2 ^ j → n < 2 ^ w → bit_or (n / 2 ^ (k + j) * 2 ^ (k + j) % 2 ^ w) (bit_or (v * 2 ^ k % 2 ^ w) (bit_and n (1 * 2 ^ k % 2 ^ w - 1))) ≡ n / 2 ^ (k + j) * 2 ^ (k + j) + v * 2 ^ k + n % 2 ^ k
+put_field w j k v n f h p q =
+    let low : n % 2 ^ k < 2 ^ k = mod-lt n (pow_pos k) in
+    let mid : v * 2 ^ k < 2 ^ w = lt_of_lt_of_le (shl_lt j k p) (pow_mono f) in
+    let top : n / 2 ^ (k + j) * 2 ^ (k + j) < 2 ^ w = lt_of_le_of_lt (div-mul-le_self n (2 ^ (k + j))) q in
+    let both : v * 2 ^ k + n % 2 ^ k < 2 ^ (k + j) = rw (add_comm k j) (join_lt j k v (n % 2 ^ k) p low) in
+    rw (low_and w k n h, join w k v (n % 2 ^ k) mid low, join w (k + j) (n / 2 ^ (k + j)) (v * 2 ^ k + n % 2 ^ k) top both, add_assoc)
 
 -- a bool as a number
 pub one_of : (b : Bool) → bool_byte b ≡ one b

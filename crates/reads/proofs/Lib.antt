@@ -1,3 +1,4 @@
 pub mod AnswerParts
 pub mod LatchByte
 pub mod Unread
+pub mod Gates

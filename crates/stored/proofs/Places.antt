@@ -1,5 +1,5 @@
 -- Where a text is cut.
-use Rattle.std.proofs.Common.{◌≡◌, ℕ, suc, ◌+◌, ◌-◌, ◌<◌, ◌≤◌, Bool, true, false, cond, eqb, ltb, List, ◌∷◌, length, take, drop, Option, Some, None, sym, refl, ap, ◌∙◌, arith, take_all, length-drop}
+use Rattle.std.proofs.Common.{◌≡◌, ℕ, suc, ◌+◌, ◌-◌, ◌<◌, ◌≤◌, Bool, true, false, cond, eqb, ltb, List, [], ◌∷◌, length, take, drop, Option, Some, None, sym, refl, ap, ◌∙◌, arith, take_all, length-drop, length-take-le}
 use borrow.Author.Tests.{ltb-true, ltb-false}
 use Rattle.std.specs.List.{position, position_or_len}
 use Rattle.std.proofs.lemmas.List.Recursion.{is_position_or_len}
@@ -14,6 +14,18 @@ found_at n k i false e h = cc
 found_none : (n k : ℕ) (t : Bool) → ltb n k ≡ t → ◌≡◌ {A = Option ℕ} (cond t (Some n) None) None → k ≤ n
 found_none n k true e h = cc
 found_none n k false e h = omega (arith, ltb-false n k e)
+
+-- a place is at most the length, so that so many bytes can be cut off
+place_step : (t : Bool) (n m : ℕ) → n ≤ m → cond t 0 (suc n) ≤ suc m
+place_step true n m h = omega arith
+place_step false n m h = omega arith
+
+place_le : (b : ℕ) (l : List ℕ) → place_of b l ≤ length l
+place_le b [] = omega arith
+place_le b (x ∷ l) = place_step (eqb x b) (place_of b l) (length l) (place_le b l)
+
+pub cut_length : (b : ℕ) (l : List ℕ) (n : ℕ) → n ≡ place_of b l → n ≡ length (take n l)
+cut_length b l n e = sym (length-take-le n l (omega (arith, place_le b l)))
 
 module _ (b : ℕ) (l : List ℕ) where
   step : (x : ℕ) (xs : List ℕ) → place_of b (x ∷ xs) ≡ cond (eqb x b) 0 (1 + place_of b xs)
