@@ -41,6 +41,15 @@ pub no_steps : (d : Direction) (n : ℕ) → counter_steps d 0 n ≡ record { va
 unfolding counter_steps value_after passings
 no_steps d n = refl
 
+-- one step
+pub one_step : (d : Direction) (n : ℕ) → counter_steps d 1 n ≡ counter_step d n
+unfolding counter_steps value_after passings counter_step
+one_step d n = ap (λ (t : Bool). record { value = stepped_to d n; passed = t }) (by_test (eqb (stepped_to d n) 0))
+  where
+    by_test : (t : Bool) → ltb 0 (one t + 0) ≡ t
+    by_test true = refl
+    by_test false = refl
+
 -- a test, by what it says of its numbers
 by_ltb : (a b : ℕ) {t : Bool} → (a < b → t ≡ true) → (b ≤ a → t ≡ false) → ltb a b ≡ t
 by_ltb a b {t} f g = go (ltb a b) refl

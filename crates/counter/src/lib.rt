@@ -65,6 +65,10 @@ pub fn counter_steps(direction: Direction, n: u32, k: u8) -> CounterStep
             passed: false,
         };
     }
+    // One step is the step itself: that is what an ACK takes.
+    if k == 1 {
+        return counter_step(direction, n);
+    }
     match direction {
         Direction::Up => steps_up(n % COUNTER_SIZE, k),
         Direction::Down => steps_down(n % COUNTER_SIZE, k),

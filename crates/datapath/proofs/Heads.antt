@@ -1,17 +1,14 @@
 -- Stores in the head of an image: the counter's bytes, the ACK and the offset; and the SCSI FIFO's count.
 use Prim.Native.Nat.{ℕ, zero, suc, ◌+◌, ◌-◌, ◌*◌, ◌<◌, ◌≤◌}
 use mathlib.Core.Path.{◌≡◌, refl, ap, sym, ◌∙◌}
-use mathlib.Core.Bool.{Bool, true, false}
+use mathlib.Core.Bool.{true, false}
 use mathlib.Core.List.{List, []}
-use lib.Dec.{ltb, eqb}
 use borrow.Author.Tests.{lt-ltb, le-ltb, lt-leb}
 use native.Mathlib.Omega.{arith}
 use lib.ListN.{length, drop, set, get_or, drop_of_length-le}
-use Rattle.rules.specs.Counter.{counter_size, stepped_to, counter_step, value_after, passings, counter_byte, counter_with}
+use Rattle.rules.specs.Counter.{counter_size, counter_byte, counter_with}
 use Rattle.rules.specs.declared.counts.CounterStep.{CounterStep}
-use Rattle.rules.specs.declared.counts.Direction.{Direction}
 use Rattle.rules.specs.declared.counts.Direction.TheVariants.{Up, Down}
-use Rattle.rules.specs.Numbers.{one}
 use Rattle.rules.specs.State.{State}
 use Rattle.counter.specs.Steps.{counter_steps}
 use Rattle.counter.proofs.Steps.{up_steps, down_steps}
@@ -95,18 +92,6 @@ low_steps : (s : State) (v b : ℕ) → b < 256 → v + counter_byte 0 s.transfe
 unfolding image_of
 low_steps s v b h k = bytes_as s v (omega (arith, k)) (omega (arith, k)) (omega (arith, k))
 
--- one step
-said : ℕ → Bool → CounterStep
-said v t = record { value = v; passed = t }
-
-pub one_step : (d : Direction) (n : ℕ) → counter_steps d 1 n ≡ counter_step d n
-unfolding counter_steps value_after passings counter_step said
-one_step d n = ap (said (stepped_to d n)) (by_test (eqb (stepped_to d n) 0))
-  where
-    by_test : (t : Bool) → ltb 0 (one t + 0) ≡ t
-    by_test true = refl
-    by_test false = refl
-
 -- k steps up or down of a low byte that does not carry pass no end
 more_up : (k n : ℕ) → n < counter_size → counter_byte 0 n + k < 256
     → ((counter_steps Up k n).passed ≡ false) × ((counter_steps Up k n).value + counter_byte 0 n ≡ n + (counter_byte 0 n + k))
@@ -143,6 +128,10 @@ module _ {m : List ℕ} (s : State) (e : m ≡ image_of s) where
   byte_laid (suc zero) v l h = ap (λ (y : List ℕ). set y counter_middle_place v) e ∙ middle_stored s v h
   byte_laid (suc (suc zero)) v l h = ap (λ (y : List ℕ). set y counter_high_place v) e ∙ high_stored s v h
   byte_laid (suc (suc (suc k))) v l h = absurd (omega arith)
+
+  -- the place by its number
+  pub byte_laid_at : (k p v : ℕ) → p ≡ counter_low_place - k → k < 3 → v < 256 → set m p v ≡ image_of (counter_written k v s)
+  byte_laid_at k p v f l h = ap (λ (q : ℕ). set m q v) f ∙ byte_laid k v l h
 
   pub number_laid : (n : ℕ) {a b c : ℕ} → a ≡ counter_byte 0 n → b ≡ counter_byte 1 n → c ≡ counter_byte 2 n
       → set (set (set m counter_low_place a) counter_middle_place b) counter_high_place c ≡ image_of (with_counter n s)

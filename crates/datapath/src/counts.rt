@@ -96,7 +96,7 @@ pub fn counter_stepped_by(m: &mut Image, direction: Direction, n: u8) -> bool
 }
 
 // The counter steps; the answer says whether it passed its end.
-#[tactic(auto, using(crate::proofs::Heads::one_step))]
+#[tactic(auto, using(counter::proofs::Steps::one_step))]
 pub fn counter_stepped(m: &mut Image, direction: Direction) -> bool
     requires { IsImage m.old }
     ensures value { result ≡ counter_passes direction (state_at m.old) }
