@@ -20,10 +20,11 @@ pub mod reading;
 mod scsidat;
 pub mod writing;
 
-// An event that goes on to B: the value that it reads, and its ticks.
+// An event that goes on to B: the value that it reads, of sixteen bits, and its ticks. Both fields are as wide, so that nothing is left
+// out between them: a copy of the two was loaded across two stores.
 #[derive(Clone, Copy)]
 pub struct Effect {
-    pub value: u16,
+    pub value: u32,
     pub ticks: u32,
 }
 
@@ -66,5 +67,8 @@ fn done(m: &mut Image, value: u16) -> Acted
     ensures value { result ≡ done_with value 0 }
 {
     status_kept_in(m, false, false);
-    Ok(Effect { value, ticks: 0 })
+    Ok(Effect {
+        value: u32::from(value),
+        ticks: 0,
+    })
 }

@@ -54,7 +54,7 @@ pub fn latch_read(m: &mut Image) -> Acted
 {
     let accessed = io_seen(m) & spiordy(m);
     let acked = automatic_ack(m, accessed);
-    let value = u16::from(data_seen(m));
+    let value = u32::from(data_seen(m));
     ack_by(m, acked);
     status_kept_in(m, accessed, acked);
     Ok(Effect { value, ticks: 0 })

@@ -91,7 +91,7 @@ pub fn outcome_of(m: &mut Image, bytes: &[u8], spare: &mut Image) -> Outcome
     };
     let mut so_far: Option<Outcome> = None;
     loop {
-        let p = finished(m, before, one, a.value);
+        let p = finished(m, before, one, a.value as u16);
         if so_far.is_none() & (lap.left == 0) {
             return p;
         }

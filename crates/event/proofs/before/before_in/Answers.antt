@@ -5,9 +5,9 @@ use Rattle.edges.specs.Since.{rst_of, req_of, mismatched_of}
 use Rattle.edges.proofs.Still.{rst_of_lem, req_of_lem, mismatched_of_lem}
 use Rattle.event.proofs.before.before_in.Goals as goal
 
-pub returns : goal.returns
+pub returns-clause-recalls : goal.returns-clause-recalls
 unfolding state_at
-returns c =
+returns-clause-recalls c =
     let m = c.args.m.now in
     record {
       rst = ap rst_of c.seen_in.ensures ∙ rst_of_lem m;

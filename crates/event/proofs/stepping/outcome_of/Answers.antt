@@ -1,11 +1,12 @@
 use Rattle.std.specs.Prelude.{None}
 use mathlib.Core.Path.{◌≡◌, refl}
 use lib.Dec.{eqb}
+use native.Mathlib.Omega.{arith}
 use borrow.Author.Tests.{eqb-true}
 use Rattle.rules.specs.Step.{step}
 use Rattle.rules.specs.Records.{decode}
 use Rattle.rules.proofs.Logic.{left_true, right_true}
-use Rattle.rules.proofs.Ranges.{StepFits, decode_fits}
+use Rattle.rules.proofs.Ranges.{StepFits, decode_fits, value_fits}
 use Rattle.rules.proofs.Reports.{step_fits}
 use Rattle.image.specs.Image.{state_at}
 use Rattle.event.proofs.Starts as starts
@@ -17,11 +18,17 @@ use Rattle.event.proofs.stepping.outcome_of.Goals.{In-Ok}
 begun : (e : In-Ok) → starts.Onward (step (state_at e.args.m.now) e.args.bytes.now) e.opened.new.m e.before_in-before.result e.in-Ok.a.ticks e.in-Ok.a.value
 unfolding step
 begun e =
-    starts.opens_onward (state_at e.args.m.now) e.requires.range e.requires.bytes e.in-Ok.a e.before_in-before.ensures (decode e.args.bytes.now) (decode_fits e.args.bytes.now) e.in-Ok.ensures
+    starts.opens_onward (state_at e.args.m.now) e.requires.range e.requires.bytes e.in-Ok.a e.before_in-before.ensures.recalls (decode e.args.bytes.now) (decode_fits e.args.bytes.now) e.in-Ok.ensures
 
 reported : (e : In-Ok) → StepFits (step (state_at e.args.m.now) e.args.bytes.now)
 reported e =
     step_fits (state_at e.args.m.now) e.args.bytes.now e.requires.range
+
+-- what is read has sixteen bits
+pub overflow_cast-a : goal.overflow_cast-a
+overflow_cast-a c =
+    let r = (begun (goal.at.overflow_cast-a c).In-Ok).ready in
+    omega (arith, r.value, value_fits r.state r.event r.range r.bytes)
 
 pub returns-in-Err : goal.returns-in-Err
 unfolding step
@@ -63,4 +70,4 @@ pub loop-lap-preserved : goal.loop-lap-preserved
 loop-lap-preserved c y b =
     let w = c.loop-lap.invariant y b in
     let l = c.finished-p.ensures w.ready in
-    turns.turn_next w l c.added-o.ensures c.in-Some.next c.ticked.result c.in-Some.is c.onward.ensures c.before_in-before-in-loop-lap.ensures c.ticked.ensures
+    turns.turn_next w l c.added-o.ensures c.in-Some.next c.ticked.result c.in-Some.is c.onward.ensures c.before_in-before-in-loop-lap.ensures.recalls c.ticked.ensures
