@@ -23,7 +23,7 @@ use Rattle.image.proofs.ReadBack as image
 use Rattle.step.specs.Entry.{Entered}
 use Rattle.step.proofs.Parts.{tidy_of, view_of}
 use Rattle.saved.specs.Accepted.{same_bytes, counts_fit, unused_clear, ticks_leave, accepted}
-use Rattle.saved.specs.Lent.{chip_written, chip_read}
+use Rattle.saved.specs.Lent.{refused_chip, chip_written, chip_read}
 use Rattle.saved.specs.declared.slices.Refused.TheVariants.{NotAccepted}
 use Rattle.saved.proofs.Acceptance.{accepted_acceptable, acceptable_accepted}
 use Rattle.saved.proofs.Cases.{zeros}
@@ -172,6 +172,6 @@ again_same =
 unfoldable pub unrested : Chip
 unrested = chip_of (state_at (set zeros scsiseq_place 0x40))
 
-unrested_refused : chip_read (chip_written unrested zeros) ≡ Err NotAccepted
+unrested_refused : chip_read (chip_written unrested zeros) ≡ Err (refused_chip NotAccepted)
 unfolding computes view chip_of path_view path_of registers_view stack_view sequencer_view image_of state_at same_bytes counts_fit unused_clear ticks_leave accepted zeros chip_written chip_read unrested
 unrested_refused = refl

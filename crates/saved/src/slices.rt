@@ -1,12 +1,12 @@
 // A chip value into a lent slice, and out of one.
 ghost use Rattle.std.specs.Prelude.{◌≡◌};
-ghost use Rattle.saved.specs.Lent.{chip_read, IsWritten, IsTaken};
+ghost use Rattle.saved.specs.Lent.{refused_chip, chip_read, IsWritten, IsTaken};
 
 use crate::bytes::known;
 use crate::is_accepted;
 use image::layout::{Image, SIZE};
 use rules::chip::Chip;
-use step::reset::tidied;
+use step::reset::{power_reset, tidied};
 
 // Why a slice is refused.
 #[derive(Clone, Copy, PartialEq, Eq)]
@@ -15,6 +15,24 @@ pub enum Refused {
     OtherLength,
     // It holds no image that is accepted.
     NotAccepted,
+}
+
+// Why a slice is not read; the chip of power reset stands beside the refusal.
+#[derive(Clone, Copy)]
+pub struct Unread {
+    pub why: Refused,
+    pub chip: Chip,
+}
+
+impl From<Refused> for Unread {
+    ghost from_gives = { λ why unread. unread ≡ refused_chip why };
+
+    fn from(why: Refused) -> Unread {
+        Unread {
+            why,
+            chip: power_reset(),
+        }
+    }
 }
 
 // The image of the chip in its one form; nothing is written into a slice of another length, and the answer says so.
@@ -36,7 +54,7 @@ pub fn write_chip(c: Chip, out: &mut [u8]) -> Result<(), Refused>
 #[tactic(auto, using(crate::proofs::Lent::length_refused, crate::proofs::Acceptance::accepted_is))]
 #[inline(always)]
 pub fn taken(image: &[u8], m: &mut Image) -> Result<(), Refused>
-    ensures { IsTaken image.now m.new result }
+    ensures { IsTaken image.now m.old m.new result }
 {
     if image.len() != SIZE {
         return Err(Refused::OtherLength);
@@ -50,9 +68,9 @@ pub fn taken(image: &[u8], m: &mut Image) -> Result<(), Refused>
     }
 }
 
-// The chip whose image a slice holds.
+// The chip whose image a slice holds, or the refusal.
 #[tactic(auto, unfolding(crate::specs::Lent::chip_read))]
-pub fn read_chip(image: &[u8]) -> Result<Chip, Refused>
+pub fn read_chip(image: &[u8]) -> Result<Chip, Unread>
     ensures { result ≡ chip_read image.now }
 {
     let mut m = [0u8; SIZE];
