@@ -13,9 +13,7 @@ pub fn bytes_in(kept: &[u8]) -> [u8; STACK_SIZE]
     requires { 32 ≤ length kept.now }
     ensures { result ≡ take 32 kept.now }
 {
-    let mut bytes = [0u8; STACK_SIZE];
-    bytes.copy_from_slice(&kept[..STACK_SIZE]);
-    bytes
+    *kept.first_chunk().unwrap()
 }
 
 // Thirty-two bytes into the record.
@@ -23,7 +21,7 @@ pub fn bytes_kept(bytes: [u8; STACK_SIZE], kept: &mut [u8])
     requires { 32 ≤ length kept.old }
     ensures { kept.new ≡ bytes ++ drop 32 kept.old }
 {
-    kept[..STACK_SIZE].copy_from_slice(&bytes);
+    *kept.first_chunk_mut().unwrap() = bytes;
 }
 
 // The stack that the record holds.

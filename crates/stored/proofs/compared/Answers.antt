@@ -14,12 +14,12 @@ loop-rest-init c = ap (λ (x : Tally). tallied x (lines_in c.args.text.now)) c.n
 pub loop-rest-smaller : goal.loop-rest-smaller
 loop-rest-smaller c =
     let l = c.loop-rest in
-    shorter l.t c.next_line.result c.line-t.result l.rest.now c.cut.result.0.now c.cut.result.1.now (search rules) c.cut.ensures.behind
+    shorter l.t c.next_line.new.t c.line.new.t l.rest.now c.cut.result.0.now c.cut.result.1.now (search rules) c.cut.ensures.behind
 
 pub loop-rest-preserved : goal.loop-rest-preserved
 loop-rest-preserved c =
     let l = c.loop-rest in
-    turn l.t c.next_line.result c.line-t.result l.rest.now c.cut.result.0.now c.cut.result.1.now (search rules) c.next_line.ensures c.cut.ensures.before c.line-t.ensures c.cut.ensures.behind
+    turn l.t c.next_line.new.t c.line.new.t l.rest.now c.cut.result.0.now c.cut.result.1.now (search rules) c.next_line.ensures c.cut.ensures.before c.line.ensures c.cut.ensures.behind
     ∙ l.invariant
 
 pub returns : goal.returns

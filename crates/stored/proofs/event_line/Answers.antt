@@ -14,8 +14,8 @@ shared_ref_as_front-bytes c = named_short c.cut.result.0.now c.in-Some.record (s
 
 pub returns-in_default : goal.returns-in_default
 returns-in_default c =
-    event_line_is c.args.t c.args.text.now c.cut.result.0.now c.cut-2.result.0.now None c.cut.ensures.before (c.cut-2.ensures.before ∙ ap first_word c.cut.ensures.behind) (sym c.in_default.is ∙ c.record_of.ensures)
+    event_line_is c.args.t.now c.args.text.now c.cut.result.0.now c.cut-2.result.0.now None c.cut.ensures.before (c.cut-2.ensures.before ∙ ap first_word c.cut.ensures.behind) (sym c.in_default.is ∙ c.record_of.ensures)
 
 pub returns : goal.returns
 returns c =
-    c.event.ensures ∙ event_line_is c.args.t c.args.text.now c.cut.result.0.now c.cut-2.result.0.now (Some c.in-Some.record) c.cut.ensures.before (c.cut-2.ensures.before ∙ ap first_word c.cut.ensures.behind) (sym c.in-Some.is ∙ c.record_of.ensures)
+    c.event.ensures ∙ event_line_is c.args.t.now c.args.text.now c.cut.result.0.now c.cut-2.result.0.now (Some c.in-Some.record) c.cut.ensures.before (c.cut-2.ensures.before ∙ ap first_word c.cut.ensures.behind) (sym c.in-Some.is ∙ c.record_of.ensures)
